@@ -29,9 +29,8 @@ use Rattle.relay_row.specs.declared.operated.Operated.{Operated}
 use Rattle.relay_row.specs.declared.row.Row.{Row}
 use Rattle.relay_row.specs.declared.taken.Effect.{Effect}
 use Rattle.relay_row.specs.declared.taken.Taken.{Taken}
-use Rattle.relay_row.proofs.Again.{FitsFetched, message_fits, rev_fits}
-use Rattle.relay_row.proofs.AgainRows.{taken_fits}
 use Rattle.relay_row.proofs.Journals.{fronts, grew}
+use Rattle.relay_row.proofs.Fits.{FitsFetched, message_fits, rev_fits, taken_fits}
 use Rattle.account_state.specs.Folds.{account, effected, last_rev, lost, moved, refetched}
 use Rattle.account_state.specs.State.{State}
 use Rattle.account_state.specs.declared.repo.Repo.{Repo}

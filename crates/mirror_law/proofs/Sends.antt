@@ -17,8 +17,7 @@ use Rattle.relay_row.specs.declared.fetched.Fetched.{Fetched}
 use Rattle.relay_row.specs.declared.fetched.Whole.{Whole}
 use Rattle.relay_row.specs.declared.row.Row.{Row}
 use Rattle.relay_row.specs.declared.taken.Taken.{Taken}
-use Rattle.relay_row.proofs.Again.{FitsFetched, message_fits}
-use Rattle.relay_row.proofs.AgainRows.{taken_fits}
+use Rattle.relay_row.proofs.Fits.{FitsFetched, message_fits, taken_fits}
 use Rattle.relay_law.specs.Faithful.{AreFaithful, IsFaithful, IsFaithfulFetch}
 use Rattle.relay_store.specs.Shown.{is_shown, shown_of}
 

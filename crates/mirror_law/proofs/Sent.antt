@@ -17,9 +17,8 @@ use Rattle.relay_row.specs.declared.fetched.Fetched.{Fetched}
 use Rattle.relay_row.specs.declared.fetched.Whole.{Whole}
 use Rattle.relay_row.specs.declared.row.Row.{Row}
 use Rattle.relay_row.specs.declared.taken.Taken.{Taken}
-use Rattle.relay_row.proofs.Again.{FitsFetched}
-use Rattle.relay_row.proofs.AgainRows.{taken_fits}
 use Rattle.relay_row.proofs.Journals.{lasts_joined}
+use Rattle.relay_row.proofs.Fits.{FitsFetched, taken_fits}
 use Rattle.mirror_law.specs.Laws.{StreamsAreSent}
 use Rattle.relay_store.specs.Shown.{held_by, is_shown, shown_of}
 

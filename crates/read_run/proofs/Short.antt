@@ -6,9 +6,9 @@ use Rattle.at_cbor.specs.Item.{Item, Items, items_of}
 use Rattle.at_cbor.specs.Encoding.{front_of, items_count, items_encoding, encoding}
 use Rattle.event_window.specs.Held.{Event}
 use Rattle.gate_log.specs.Image.{AreShort, IsImage}
-use Rattle.relay_row.specs.Bodies.{rows_body, row_encoding, encoded_rows}
+use Rattle.row_codec.specs.Bodies.{rows_body, row_encoding, encoded_rows}
 use Rattle.relay_row.specs.Folds.{events_in, events_of}
-use Rattle.relay_row.specs.Items.{fetched_item, list, row_items, whole_items}
+use Rattle.row_codec.specs.Items.{fetched_item, list, row_items, whole_items}
 use Rattle.relay_row.specs.declared.fetched.Fetched.{Fetched}
 use Rattle.relay_row.specs.declared.fetched.Whole.{Whole}
 use Rattle.relay_row.specs.declared.row.Row.{Row}

@@ -37,10 +37,10 @@ fn check_inside<F: FileCalls>(file: &mut F, place: u64) -> Result<(), Failed>
     ensures made { IsTrue F.tells → F.made file.new ≡ F.made file.old ++ Call.Size ∷ [] }
     ensures inside { OnOk result (IsTrue F.tells → place ≤ F.size_told file.new) }
 {
-    if answered(file.size())? < place {
-        return Err(Failed);
+    match file.size() {
+        Ok(size) if place <= size => Ok(()),
+        _ => Err(Failed),
     }
-    Ok(())
 }
 
 fn write_inside<F: FileCalls>(file: &mut F, place: u64, piece: &[u8]) -> Result<(), Failed>

@@ -23,7 +23,7 @@ use Rattle.at_event.specs.declared.head.Head.{Head}
 use Rattle.commit_check.proofs.Held.{bytes_left, bytes_right}
 use Rattle.event_checks.specs.Opening.{CarResult, object_in_block, read_object}
 use Rattle.relay_row.specs.Rules.{is_cid, is_head, is_node, is_rev}
-use Rattle.relay_row.proofs.Again.{cid_fits}
+use Rattle.relay_row.proofs.Fits.{cid_fits}
 use Rattle.repo_sync.specs.Repository.{IsWhole}
 use Rattle.repo_sync.specs.declared.found.Found.{Found as Checked}
 use Rattle.relay_core.specs.Decide.{commit_blocks, commit_car}

@@ -30,9 +30,8 @@ use Rattle.at_form.specs.declared.forms.TheConstants.{LONGEST_SHORT_TEXT}
 use Rattle.relay_row.specs.declared.operated.Operated.{Operated}
 use Rattle.relay_row.specs.declared.row.Row.{Row}
 use Rattle.relay_row.specs.declared.taken.Effect.{Effect}
-use Rattle.relay_row.proofs.Again.{FitsEffect, message_fits, rev_fits, text_fits}
-use Rattle.relay_row.proofs.AgainRows.{did_text, taken_fits}
 use Rattle.relay_row.proofs.Journals.{fronts, grew}
+use Rattle.relay_row.proofs.Fits.{FitsEffect, message_fits, rev_fits, text_fits, did_text, taken_fits}
 use Rattle.account_state.specs.Folds.{account, account_after, effected, fresh, last_rev, lost, moved, refetched}
 use Rattle.account_state.specs.State.{State}
 use Rattle.account_state.specs.declared.repo.Repo.{Repo}

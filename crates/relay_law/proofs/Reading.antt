@@ -17,9 +17,8 @@ use Rattle.at_cid.specs.declared.limits.TheConstants.{NUMBERS}
 use Rattle.relay_row.specs.declared.fetched.Fetched.{Fetched}
 use Rattle.relay_row.specs.declared.row.Row.{Row}
 use Rattle.relay_row.specs.declared.taken.Taken.{Taken}
-use Rattle.relay_row.proofs.Again.{FitsFetched}
-use Rattle.relay_row.proofs.AgainRows.{taken_fits}
 use Rattle.relay_row.proofs.Journals.{grew, fronts}
+use Rattle.relay_row.proofs.Fits.{FitsFetched, taken_fits}
 use Rattle.account_state.specs.Folds.{account}
 use Rattle.account_state.specs.State.{State}
 use Rattle.relay_core.specs.Decide.{Checks, Outside, Found, absent, unfit, found, answers, decided_event, decision_for, fetched_as, refusal_of}

@@ -20,7 +20,7 @@ use Rattle.commit_check.specs.Step.{is_gap, root_before}
 use Rattle.commit_check.proofs.Held.{car_linked}
 use Rattle.commit_check.proofs.Objects.{data_held}
 use Rattle.relay_row.specs.Rules.{is_cid, is_node, is_node_kind, is_rev}
-use Rattle.relay_row.proofs.Again.{node_fits}
+use Rattle.relay_row.proofs.Fits.{node_fits}
 use Rattle.relay_core.specs.Table.{TableLine, told, asked, Walk, waits, refuses, passes, walk, walk_past, when, refusal_in, is_ahead, link_line, repo_lines, body_lines, event_lines}
 use Rattle.relay_core.specs.declared.answers.Answers.{Answers}
 use Rattle.relay_core.specs.declared.answers.Question.{Question}

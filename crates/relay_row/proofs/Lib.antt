@@ -1,15 +1,4 @@
-pub mod Loops
-pub mod Steps
-pub mod Atoms
-pub mod ByKind
-pub mod Counts
-pub mod Found
-pub mod FoundRows
 pub mod Bytes
-pub mod Again
-pub mod AgainRows
-pub mod Bodies
+pub mod Fits
 pub mod Journals
-pub mod BytesFronts
-pub mod Left
 pub mod WellFormed

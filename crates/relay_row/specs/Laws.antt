@@ -1,7 +1,6 @@
--- What holds of all bodies, encodings, folds and journals.
+-- What holds of all rows, folds and journals.
 use Rattle.std.specs.Prelude.{◌≡◌, ◌↔◌, ℕ, List, [], ◌∷◌, ◌++◌, true, IsTrue}
 use Rattle.relay_row.specs.declared.row.Row.{Row}
-use Rattle.relay_row.specs.Bodies.{encoded_rows, IsBody}
 use Rattle.relay_row.specs.Folds.{folded, cursor_after, cursor, last_after, last_seq, events}
 use Rattle.relay_row.specs.Journal.{IsJournal, keeps_order}
 use Rattle.relay_row.specs.Rules.{is_row}
@@ -10,14 +9,6 @@ use Rattle.relay_row.specs.WellFormed.{IsWellFormed}
 -- The test of rows finds those that are well formed, record by record.
 abbrev pub RowsAreTested : Type 0
 RowsAreTested = (row : Row) → IsTrue (is_row row) ↔ IsWellFormed row
-
--- No body is that of two lists of rows.
-abbrev pub BodiesTellRows : Type 0
-BodiesTellRows = (xs ys : List Row) (body : List ℕ) → IsBody xs body → IsBody ys body → xs ≡ ys
-
--- Rows behind rows are encoded behind them.
-abbrev pub RowsJoin : Type 0
-RowsJoin = (xs ys : List Row) → encoded_rows (xs ++ ys) ≡ encoded_rows xs ++ encoded_rows ys
 
 -- What follows from a journal in two halves follows from the second half behind what follows from
 -- the first.

@@ -1,12 +1,6 @@
-pub mod Items
 pub mod Rules
 pub mod WellFormed
-pub mod Bodies
-pub mod Readers
-pub mod Reading
-pub mod Answers
 pub mod Laws
 pub mod Journal
 pub mod Folds
 pub mod NewRow
-pub mod Left

@@ -1,20 +1,10 @@
-//! Laws of rows, bodies, folds and journals, each the contract of a function that does nothing.
+//! Laws of rows, folds and journals, each the contract of a function that does nothing.
 
-ghost use Rattle.relay_row.specs.Laws.{BodiesTellRows, RowsJoin, FoldsJoin, JournalsGrow, RowsAreTested};
+ghost use Rattle.relay_row.specs.Laws.{FoldsJoin, JournalsGrow, RowsAreTested};
 
 /// [`is_row`](crate::is_row) finds the rows that are well formed, record by record.
 pub fn rows_are_tested()
     ensures { RowsAreTested }
-{}
-
-/// No body is that of two lists of rows.
-pub fn bodies_tell_rows()
-    ensures { BodiesTellRows }
-{}
-
-/// Rows behind rows are encoded behind them.
-pub fn rows_join()
-    ensures { RowsJoin }
 {}
 
 /// The fold of a journal in two halves is the fold of the whole.

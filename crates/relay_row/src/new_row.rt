@@ -3,6 +3,7 @@
 ghost use Rattle.std.specs.Prelude.{◌≡◌, ◌<◌, IfOk};
 ghost use Rattle.at_event.specs.Writing.{out_of};
 ghost use Rattle.at_cid.specs.declared.limits.TheConstants.{NUMBERS};
+ghost use Rattle.relay_row.specs.NewRow.{HasNumber, with_message};
 
 use crate::taken::Taken;
 use at_cid::Memory;
@@ -12,16 +13,16 @@ use std::marker::Model;
 
 /// A row, but for its message, and the event whose message it is to be, if it isn't its own.
 #[derive(Debug, Drop)]
-pub(crate) struct Parts {
-    pub(crate) taken: Taken,
-    pub(crate) event: Option<Event>,
+struct Parts {
+    taken: Taken,
+    event: Option<Event>,
 }
 
 /// What became of a message that a host sent, before the message that goes out is encoded. It is seen with that message, which is
 /// encoded where the row is written, and nowhere else. Its parts stand in a box, so that it weighs little where it is handed on.
 #[derive(Debug, Drop)]
 pub struct NewRow {
-    pub(crate) parts: Box<Parts>,
+    parts: Box<Parts>,
 }
 
 impl Model for NewRow {
@@ -62,6 +63,14 @@ impl NewRow {
         ensures { record result.now { message = self.now.message } ≡ self.now }
     {
         &self.parts.taken
+    }
+
+    /// What is to be encoded: the row, but for its message, and the event whose message it is to be, if it isn't its own.
+    pub fn to_encode(&self) -> (&Taken, &Option<Event>)
+        ensures row { self.now ≡ with_message result.0.now result.1.now }
+        ensures number { HasNumber result.0.now result.1.now }
+    {
+        (&self.parts.taken, &self.parts.event)
     }
 
     /// The row, but for its message, to be taken apart.

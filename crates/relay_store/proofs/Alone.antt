@@ -7,9 +7,9 @@ use Rattle.std.proofs.lemmas.Bool.Decides.{nat_tests}
 use Rattle.at_cbor.specs.declared.major.Major.{Major}
 use Rattle.at_cbor.specs.Encoding.{front_of, tail_of}
 use Rattle.gate_log.specs.Log.{LogState}
-use Rattle.relay_row.specs.Bodies.{row_encoding, encoded_rows}
+use Rattle.row_codec.specs.Bodies.{row_encoding, encoded_rows}
 use Rattle.relay_row.specs.declared.row.Row.{Row}
-use Rattle.relay_row.proofs.Bodies.{encoded_joined}
+use Rattle.row_codec.proofs.Bodies.{encoded_joined}
 use Rattle.relay_store.specs.PendingBodies.{IsFull}
 use Rattle.relay_store.proofs.Encodings.{length_body, length_one}
 

@@ -5,7 +5,7 @@ use Rattle.std.proofs.lemmas.List.Folds.{list_all-append}
 use Rattle.std.specs.List.{list_all}
 use Rattle.at_cbor.specs.declared.major.Major.{Major}
 use Rattle.at_cbor.specs.Encoding.{front_of}
-use Rattle.relay_row.specs.Bodies.{rows_body, row_encoding, encoded_rows, IsBody}
+use Rattle.row_codec.specs.Bodies.{rows_body, row_encoding, encoded_rows, IsBody}
 use Rattle.relay_row.specs.Journal.{IsJournal}
 use Rattle.relay_row.specs.Rules.{is_row}
 use Rattle.relay_row.specs.declared.row.Row.{Row}

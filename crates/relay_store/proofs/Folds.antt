@@ -4,7 +4,7 @@ use Rattle.std.proofs.lemmas.List.{append-nil}
 use Rattle.event_window.specs.declared.place.Place.{Place}
 use Rattle.gate_log.specs.declared.format.Format.{Format}
 use Rattle.gate_log.specs.Image.{made}
-use Rattle.relay_row.specs.Bodies.{rows_body, IsBody}
+use Rattle.row_codec.specs.Bodies.{rows_body, IsBody}
 use Rattle.relay_row.specs.declared.row.Row.{Row}
 use Rattle.relay_store.specs.Journals.{joined, bytes_of, AllBodies}
 use Rattle.relay_store.specs.Places.{place_of, places_in, places_behind}

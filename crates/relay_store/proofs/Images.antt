@@ -5,10 +5,10 @@ use Rattle.gate_log.specs.Image.{IsImage, IsMade}
 use Rattle.gate_log.specs.Pick.{IsPairImage, of_side}
 use Rattle.gate_log.proofs.Unique.{same_image}
 use Rattle.gate_log.proofs.OneSide.{same_pair, pair_or_bad}
-use Rattle.relay_row.specs.Bodies.{rows_body, IsBody}
+use Rattle.row_codec.specs.Bodies.{rows_body, IsBody}
 use Rattle.relay_row.specs.Journal.{IsJournal}
 use Rattle.relay_row.specs.declared.row.Row.{Row}
-use Rattle.relay_row.proofs.Bodies.{same_rows}
+use Rattle.row_codec.proofs.Bodies.{same_rows}
 use Rattle.relay_row.proofs.Journals.{fronts}
 use Rattle.relay_store.specs.Journals.{joined, bytes_of, AllBodies, AreBodiesOf, IsLogOf, IsPairImageOf, IsBadBodyAt, IsBadPairJournalAt}
 use Rattle.relay_store.specs.Store.{StoreState, Keeps}

@@ -2,7 +2,7 @@
 use Rattle.std.proofs.Common.{ℕ, ◌-◌, ◌<◌, List, [], ◌∷◌, ◌++◌, length, arith}
 use Rattle.gate_log.specs.Image.{made}
 use Rattle.gate_log.specs.declared.format.Format.{Format}
-use Rattle.relay_row.specs.Bodies.{IsBody, rows_body}
+use Rattle.row_codec.specs.Bodies.{IsBody, rows_body}
 use Rattle.relay_row.specs.declared.row.Row.{Row}
 use Rattle.relay_store.specs.Journals.{AllBodies}
 use Rattle.relay_store.proofs.Loaded.{length_made, some_records}

@@ -7,7 +7,7 @@ use Rattle.gate_log.specs.declared.limits.TheConstants.{BEFORE_BODY}
 use Rattle.gate_log.specs.Image.{made, front, records}
 use Rattle.at_cid.specs.Lengths.{length_prefixed}
 use Rattle.gate_log.proofs.Append.{records-append, made-push}
-use Rattle.relay_row.specs.Bodies.{rows_body, IsBody}
+use Rattle.row_codec.specs.Bodies.{rows_body, IsBody}
 use Rattle.relay_row.specs.Journal.{IsJournal}
 use Rattle.relay_row.specs.declared.row.Row.{Row}
 use Rattle.relay_row.proofs.Journals.{no_rows}

@@ -7,7 +7,7 @@ use Rattle.gate_log.specs.declared.format.Format.{Format}
 use Rattle.gate_log.specs.declared.picking.Side.{Side}
 use Rattle.gate_log.proofs.Fronts.{made_front, same_format}
 use Rattle.gate_log.proofs.OneSide.{one_pair_place, one_side, pair_or_bad, same_pair}
-use Rattle.relay_row.specs.Bodies.{rows_body, IsBody}
+use Rattle.row_codec.specs.Bodies.{rows_body, IsBody}
 use Rattle.relay_row.specs.Journal.{IsJournal}
 use Rattle.relay_row.specs.declared.row.Row.{Row}
 use Rattle.relay_row.proofs.Journals.{fronts}

@@ -5,12 +5,12 @@ use Rattle.std.proofs.lemmas.Bool.{and_parts}
 use Rattle.std.specs.Prelude.{Option, Some, Result, Ok, Err}
 use Rattle.event_window.specs.declared.place.Place.{Place}
 use Rattle.relay_row.specs.Journal.{IsJournal, keeps_order}
-use Rattle.relay_row.specs.Left.{RowsLeft, AreBehindFront, AreInFront, AreLeft, TakesNext}
+use Rattle.row_codec.specs.Left.{RowsLeft, AreBehindFront, AreInFront, AreLeft, TakesNext}
 use Rattle.relay_row.specs.Rules.{is_row}
-use Rattle.relay_row.specs.declared.fault.RowFault.{RowFault}
+use Rattle.row_codec.specs.declared.fault.RowFault.{RowFault}
 use Rattle.relay_row.specs.declared.row.Row.{Row}
 use Rattle.relay_row.proofs.Journals.{grows, grew, fronts}
-use Rattle.relay_row.proofs.Left.{none_read, more_read, all_read, others_left, left_of_body, body_of_left}
+use Rattle.row_codec.proofs.Left.{none_read, more_read, all_read, others_left, left_of_body, body_of_left}
 use Rattle.relay_core.specs.declared.journal_state.Core.{Core}
 use Rattle.relay_core.specs.Entries.{Holds}
 use Rattle.relay_store.specs.Opening.{AreApplied, IsApplying, IsApplied, IsBadBody}

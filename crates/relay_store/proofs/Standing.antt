@@ -8,7 +8,7 @@ use Rattle.event_window.specs.Window.{AreAbove, all_above, is_at_most}
 use Rattle.event_window.specs.declared.place.Place.{Place}
 use Rattle.gate_log.specs.declared.format.Format.{Format}
 use Rattle.gate_log.specs.Image.{made}
-use Rattle.relay_row.specs.Bodies.{rows_body}
+use Rattle.row_codec.specs.Bodies.{rows_body}
 use Rattle.relay_row.specs.Folds.{events, events_in, events_of, last_after, last_seq, seq_in, first_seq}
 use Rattle.relay_row.specs.Journal.{IsJournal, are_none, rises_above, keeps_order}
 use Rattle.relay_row.specs.declared.carried.Carried.{Carried}

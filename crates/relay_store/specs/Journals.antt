@@ -5,7 +5,7 @@ use Rattle.gate_log.specs.declared.format.Format.{Format}
 use Rattle.gate_log.specs.declared.picking.Side.{Side}
 use Rattle.gate_log.specs.Image.{made, IsMade}
 use Rattle.gate_log.specs.Pick.{IsPairImage, IsPicked, IsBadPairAt, of_side}
-use Rattle.relay_row.specs.Bodies.{rows_body, IsBody}
+use Rattle.row_codec.specs.Bodies.{rows_body, IsBody}
 use Rattle.relay_row.specs.Journal.{IsJournal}
 use Rattle.relay_row.specs.declared.row.Row.{Row}
 

@@ -8,9 +8,9 @@ use Rattle.gate_log.specs.Log.{LogState}
 use Rattle.gate_log.specs.Log.{HoldsBodies as HasBodies}
 use Rattle.gate_log.specs.Pick.{IsPicked, LeavesSide, of_side, other_side, view_of_side}
 use Rattle.gate_log.specs.declared.format.Format.{Format}
-use Rattle.relay_row.specs.Bodies.{IsBody}
+use Rattle.row_codec.specs.Bodies.{IsBody}
 use Rattle.relay_row.specs.Journal.{IsJournal}
-use Rattle.relay_row.specs.Left.{RowsLeft, AreInFront}
+use Rattle.row_codec.specs.Left.{RowsLeft, AreInFront}
 use Rattle.relay_row.specs.declared.row.Row.{Row}
 use Rattle.relay_core.specs.declared.journal_state.Core.{Core}
 use Rattle.relay_core.specs.Entries.{Holds}

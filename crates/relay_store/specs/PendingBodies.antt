@@ -9,7 +9,7 @@ use Rattle.gate_log.specs.Log.{LogState}
 use Rattle.gate_log.specs.Log.{HoldsBodies as HasBodies}
 use Rattle.gate_log.specs.declared.pending_bodies.TheConstants.{AHEAD}
 use Rattle.gate_log.specs.declared.limits.TheConstants.{AROUND_BODY, BEFORE_BODY, BODY_LENGTHS}
-use Rattle.relay_row.specs.Bodies.{rows_body, row_encoding, encoded_rows}
+use Rattle.row_codec.specs.Bodies.{rows_body, row_encoding, encoded_rows}
 use Rattle.relay_row.specs.Journal.{IsJournal}
 use Rattle.relay_row.specs.declared.row.Row.{Row}
 use Rattle.relay_core.specs.declared.journal_state.Core.{Core}

@@ -7,7 +7,7 @@ ghost use Rattle.gate_log.specs.Image.{made};
 ghost use Rattle.gate_log.specs.Log.{HoldsBodies as HasBodies, IsOn};
 ghost use Rattle.gate_log.specs.declared.fault.LogFault.{LogFault};
 ghost use Rattle.gate_log.specs.declared.limits.TheConstants.{BEFORE_BODY};
-ghost use Rattle.relay_row.specs.Bodies.{IsBody, rows_body};
+ghost use Rattle.row_codec.specs.Bodies.{IsBody, rows_body};
 ghost use Rattle.relay_row.specs.declared.row.Row.{Row as TheRow};
 ghost use Rattle.relay_store.specs.Journals.{bytes_of};
 

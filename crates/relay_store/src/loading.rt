@@ -7,8 +7,8 @@ ghost use Rattle.gate_log.specs.Image.{made};
 ghost use Rattle.gate_log.specs.Log.{HoldsBodies as HasBodies, IsOn};
 ghost use Rattle.gate_log.specs.declared.limits.TheConstants.{BEFORE_BODY};
 ghost use Rattle.relay_row.specs.Journal.{IsJournal};
-ghost use Rattle.relay_row.specs.Left.{AreLeft};
-ghost use Rattle.relay_row.specs.declared.fault.RowFault.{RowFault};
+ghost use Rattle.row_codec.specs.Left.{AreLeft};
+ghost use Rattle.row_codec.specs.declared.fault.RowFault.{RowFault};
 ghost use Rattle.relay_row.specs.declared.limits.TheConstants.{MOST_ROWS};
 ghost use Rattle.relay_row.specs.declared.row.Row.{Row as TheRow};
 ghost use Rattle.relay_core.specs.Entries.{Holds};
@@ -22,7 +22,7 @@ use event_window::Window;
 use gate_log::Log;
 use relay_core::Core;
 use relay_disk::Disk;
-use relay_row::{BodyRows, RowFault};
+use row_codec::{BodyRows, RowFault};
 use std::alloc::Global;
 
 // Learns the rows that are left of the body at this place.

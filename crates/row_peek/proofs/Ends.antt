@@ -6,11 +6,11 @@ use Rattle.at_cbor.specs.declared.major.Major.{Major}
 use Rattle.at_cbor.specs.Encoding.{front_of}
 use Rattle.at_cbor.proofs.Fronts.{form_0}
 use Rattle.relay_row.specs.declared.row.Row.{Row}
-use Rattle.relay_row.specs.Items.{row_items}
-use Rattle.relay_row.specs.Bodies.{encoded_rows, row_encoding}
+use Rattle.row_codec.specs.Items.{row_items}
+use Rattle.row_codec.specs.Bodies.{encoded_rows, row_encoding}
 use Rattle.relay_row.specs.Rules.{is_row}
-use Rattle.relay_row.proofs.Again.{then_encode, list_then}
-use Rattle.relay_row.proofs.AgainRows.{few_items}
+use Rattle.row_codec.proofs.Again.{then_encode, list_then}
+use Rattle.row_codec.proofs.AgainRows.{few_items}
 use Rattle.at_cbor.specs.Taking.{◌>>=◌}
 use Rattle.row_peek.specs.Passing.{ended_row, ends_before}
 use Rattle.row_peek.proofs.Rows.{row_passed}

@@ -8,7 +8,7 @@ use Rattle.at_cbor.specs.Heads.{argument_at}
 use Rattle.at_cbor.specs.Majors.{major_number}
 use Rattle.at_cbor.specs.Encoding.{info_of, tail_of, front_of, link_encoding, encoding}
 use Rattle.at_cbor.proofs.Fronts.{argument_again}
-use Rattle.relay_row.proofs.Again.{then_encode}
+use Rattle.row_codec.proofs.Again.{then_encode}
 use Rattle.row_peek.specs.Passing.{past, content_behind, behind_head, scalar_behind, scalars_behind, item_content_behind, item_behind, items_behind}
 
 pub past_all : (text rest : List ℕ) → past (length text) (text ++ rest) ≡ Some rest

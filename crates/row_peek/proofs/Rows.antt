@@ -17,12 +17,12 @@ use Rattle.relay_row.specs.declared.fetched.Fetched.{Fetched}
 use Rattle.relay_row.specs.declared.carried.CarriedRepo.{CarriedRepo}
 use Rattle.relay_row.specs.declared.carried.Carried.{Carried}
 use Rattle.relay_row.specs.declared.row.Row.{Row}
-use Rattle.relay_row.specs.Items.{rev_text, list, or_null, if_there, head_items, whole_items, code, detail_items, effect_item, fetched_item, repo_item, carried_items, row_items}
-use Rattle.relay_row.specs.Bodies.{row_encoding}
+use Rattle.row_codec.specs.Items.{rev_text, list, or_null, if_there, head_items, whole_items, code, detail_items, effect_item, fetched_item, repo_item, carried_items, row_items}
+use Rattle.row_codec.specs.Bodies.{row_encoding}
 use Rattle.relay_row.specs.Rules.{is_number, is_positive, is_moment, is_rev, is_node, is_cid, is_head, is_message, is_status, is_whole, is_detail, is_refused, is_decided, is_about, names_host, names_did, is_taken, is_operated, is_repo, is_carried, is_row}
-use Rattle.relay_row.proofs.Atoms.{IsTextOrNone}
-use Rattle.relay_row.proofs.Again.{then_encode, list_then, message_fits, cid_fits, node_fits, status_fits, FitsEffect, FitsFetched, repo_number_small}
-use Rattle.relay_row.proofs.AgainRows.{host_text, taken_fits, did_text, few_items}
+use Rattle.relay_row.proofs.Fits.{IsTextOrNone, message_fits, cid_fits, node_fits, status_fits, FitsEffect, FitsFetched, host_text, taken_fits, did_text}
+use Rattle.row_codec.proofs.Again.{then_encode, list_then, repo_number_small}
+use Rattle.row_codec.proofs.AgainRows.{code_fits, few_items}
 use Rattle.row_peek.specs.Passing.{item_content_behind, item_behind, row_behind}
 use Rattle.row_peek.proofs.Passed.{head_passed, IsScalar, AreScalars, scalars_passed, Passes, AllPass, scalar_passes, items_passed}
 
@@ -163,7 +163,7 @@ taken_passes t h =
             (
               number_passes t.kind (omega (arith, r.kind)),
               (
-                number_passes (code t.refusal) (omega (arith, r.which)),
+                number_passes (code t.refusal) (code_fits t.refusal r.refusal),
                 (
                   detail_passes t h,
                   (

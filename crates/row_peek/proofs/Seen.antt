@@ -18,11 +18,12 @@ use Rattle.relay_row.specs.declared.operated.Operated.{Operated}
 use Rattle.relay_row.specs.declared.carried.Carried.{Carried}
 use Rattle.relay_row.specs.declared.row.Row.{Row}
 use Rattle.relay_row.specs.Folds.{did_of_row, events_of, events_in}
-use Rattle.relay_row.specs.Items.{rev_text, list, if_there, code, detail_items, whole_items, effect_item, fetched_item, row_items}
-use Rattle.relay_row.specs.Bodies.{row_encoding}
+use Rattle.row_codec.specs.Items.{rev_text, list, if_there, code, detail_items, whole_items, effect_item, fetched_item, row_items}
+use Rattle.row_codec.specs.Bodies.{row_encoding}
 use Rattle.relay_row.specs.Rules.{is_positive, is_moment, is_message, is_whole, is_timed, names_did, is_taken, is_operated, is_row}
-use Rattle.relay_row.proofs.Again.{then_encode, list_then, message_fits, FitsFetched, repo_number_small}
-use Rattle.relay_row.proofs.AgainRows.{Readable, taken_fits, did_text, few_items}
+use Rattle.relay_row.proofs.Fits.{message_fits, FitsFetched, Fits, taken_fits, did_text}
+use Rattle.row_codec.proofs.Again.{then_encode, list_then, repo_number_small}
+use Rattle.row_codec.proofs.AgainRows.{code_fits, few_items}
 use Rattle.row_peek.specs.declared.peeked.Peeked.{Peeked}
 use Rattle.row_peek.specs.Peeked.{is_of_repo, Sees}
 use Rattle.row_peek.specs.Peeking.{Seen, seen, message_at, whole_items_at, whole_at, outcome_at, taken_at, synced_at, operated_at, peeked_at}
@@ -75,7 +76,7 @@ fetched_seen timed (Fetched.Whole w) rest is = whole_seen w rest is
 abbrev outcome_of : Taken → Option (Bool × (ℕ × List ℕ))
 outcome_of t = cond (eqb t.seq 0) (first_event (events_of t.fetched) >>= λ e. Some (true, e)) (Some (leb t.kind 2, (t.seq, t.message)))
 
-outcome_seen : (t : Taken) (rest : List ℕ) → Readable t → outcome_at t.kind (then_encode (number t.seq ∷ Item.bytes t.message ∷ effect_item t.effect ∷ fetched_item t.fetched ∷ []) rest) ≡ outcome_of t
+outcome_seen : (t : Taken) (rest : List ℕ) → Fits t → outcome_at t.kind (then_encode (number t.seq ∷ Item.bytes t.message ∷ effect_item t.effect ∷ fetched_item t.fetched ∷ []) rest) ≡ outcome_of t
 unfolding outcome_at
 outcome_seen t rest r =
     rw (number_again Major.Unsigned t.seq (then_encode (Item.bytes t.message ∷ effect_item t.effect ∷ fetched_item t.fetched ∷ []) rest) (number_short t.seq r.seq))
@@ -95,7 +96,7 @@ taken_seen t rest h =
     rw (scalars_passed (Item.text t.host ∷ number t.host_seq ∷ []) named (r.host.0.0, (number_short t.host_seq r.host_seq, tt)))
     (rw (text_again t.did (encoding (number t.kind) ++ decided) r.did)
     (rw (number_again Major.Unsigned t.kind decided (omega (arith, r.kind)))
-    (rw (items_passed (number (code t.refusal) ∷ list (detail_items t.refusal) ∷ []) out (scalar_passes (number (code t.refusal)) (omega (arith, r.which)), (detail_passes t h, tt)))
+    (rw (items_passed (number (code t.refusal) ∷ list (detail_items t.refusal) ∷ []) out (scalar_passes (number (code t.refusal)) (code_fits t.refusal r.refusal), (detail_passes t h, tt)))
     (rw (outcome_seen t rest r) refl))))
 
 -- ---- rows

@@ -2,7 +2,7 @@
 
 ghost use Rattle.std.specs.Prelude.{◌≡◌, ℕ, List, ◌++◌, true, Some, option_map};
 ghost use Rattle.row_peek.specs.Passing.{past, content_behind, scalar_behind, scalars_behind, item_content_behind, item_behind, items_behind, row_behind, ends_before, ended_row};
-ghost use Rattle.relay_row.specs.Bodies.{row_encoding, encoded_rows};
+ghost use Rattle.row_codec.specs.Bodies.{row_encoding, encoded_rows};
 ghost use Rattle.relay_row.specs.Rules.{is_row};
 ghost use Rattle.relay_row.specs.declared.row.Row.{Row};
 

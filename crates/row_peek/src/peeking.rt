@@ -2,7 +2,7 @@
 
 ghost use Rattle.std.specs.Prelude.{◌≡◌, ◌≤◌, ℕ, List, ◌++◌, true, length, IfSome, option_map};
 ghost use Rattle.row_peek.specs.Peeking.{seen, message_at, whole_items_at, whole_at, outcome_at, taken_at, synced_at, operated_at, peeked_at};
-ghost use Rattle.relay_row.specs.Bodies.{row_encoding};
+ghost use Rattle.row_codec.specs.Bodies.{row_encoding};
 ghost use Rattle.relay_row.specs.Rules.{is_row};
 ghost use Rattle.relay_row.specs.declared.row.Row.{Row};
 ghost use Rattle.row_peek.specs.Peeked.{Sees};

@@ -11,7 +11,7 @@ use Rattle.gate_log.specs.Log.{HoldsBodies as HasBodies}
 use Rattle.gate_log.specs.declared.format.Format.{Format}
 use Rattle.gate_log.specs.declared.limits.TheConstants.{BEFORE_BODY}
 use Rattle.gate_log.proofs.Append.{made-push}
-use Rattle.relay_row.specs.Bodies.{rows_body}
+use Rattle.row_codec.specs.Bodies.{rows_body}
 use Rattle.relay_row.specs.Journal.{IsJournal, keeps_order}
 use Rattle.relay_row.specs.Rules.{is_row}
 use Rattle.relay_row.specs.declared.row.Row.{Row}

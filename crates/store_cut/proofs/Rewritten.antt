@@ -13,7 +13,7 @@ use Rattle.gate_log.specs.declared.fault.LogFault.{LogFault}
 use Rattle.gate_log.specs.declared.format.Format.{Format}
 use Rattle.gate_log.specs.declared.limits.TheConstants.{AROUND_BODY, BEFORE_BODY}
 use Rattle.gate_log.proofs.Append.{records-append}
-use Rattle.relay_row.specs.Bodies.{rows_body}
+use Rattle.row_codec.specs.Bodies.{rows_body}
 use Rattle.relay_row.specs.Journal.{keeps_order}
 use Rattle.relay_row.specs.declared.row.Row.{Row}
 use Rattle.relay_core.specs.Entries.{Holds}

@@ -19,9 +19,9 @@ use Rattle.at_syntax.specs.declared.host.TheConstants.{LONGEST_HOST}
 use Rattle.at_syntax.proofs.Dids.{did_grammar}
 use Rattle.at_syntax.proofs.Tids.{length-digits_of}
 use Rattle.at_event.specs.Writing.{number_item as number}
-use Rattle.relay_row.specs.Bodies.{row_encoding}
+use Rattle.row_codec.specs.Bodies.{row_encoding}
 use Rattle.relay_row.specs.Folds.{is_named, names}
-use Rattle.relay_row.specs.Items.{head_items, list, or_null, repo_item, rev_text, row_items}
+use Rattle.row_codec.specs.Items.{head_items, list, or_null, repo_item, rev_text, row_items}
 use Rattle.relay_row.specs.Rules.{are_bytes, is_cid, is_node, is_node_kind, is_repo, is_rev, is_status, is_text, names_did, names_host}
 use Rattle.relay_row.specs.declared.carried.Carried.{Carried}
 use Rattle.relay_row.specs.declared.carried.CarriedRepo.{CarriedRepo}

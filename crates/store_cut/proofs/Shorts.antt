@@ -2,7 +2,7 @@
 use Rattle.std.proofs.Common.{ℕ, ◌+◌, ◌<◌, List, [], ◌∷◌, ◌++◌, length, take, drop, sym, subst, arith, length-append}
 use Rattle.std.proofs.lemmas.List.{take-append-drop}
 use Rattle.gate_log.specs.declared.limits.TheConstants.{BODY_LENGTHS}
-use Rattle.relay_row.specs.Bodies.{rows_body, row_encoding, encoded_rows}
+use Rattle.row_codec.specs.Bodies.{rows_body, row_encoding, encoded_rows}
 use Rattle.relay_row.specs.declared.row.Row.{Row}
 use Rattle.store_cut.specs.Rewriting.{AllShort}
 use Rattle.relay_store.proofs.Encodings.{length_body, length_one}

@@ -6,7 +6,7 @@ use Rattle.relay_disk.specs.Moments.{LeavesOnly}
 use Rattle.gate_log.specs.Image.{made, records}
 use Rattle.gate_log.specs.Build.{HasBuilt, IsBuiltOn, IsClosed}
 use Rattle.gate_log.specs.declared.limits.TheConstants.{BODY_LENGTHS}
-use Rattle.relay_row.specs.Bodies.{rows_body}
+use Rattle.row_codec.specs.Bodies.{rows_body}
 use Rattle.relay_row.specs.declared.row.Row.{Row}
 use Rattle.relay_core.specs.Entries.{Holds}
 use Rattle.relay_store.specs.PendingBodies.{end_of}

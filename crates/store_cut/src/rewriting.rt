@@ -5,7 +5,7 @@ ghost use Rattle.at_cid.specs.Counts.{Rose};
 ghost use Rattle.relay_disk.specs.Moments.{LeavesOnly};
 ghost use Rattle.gate_log.specs.Build.{IsBuiltOn, IsClosed};
 ghost use Rattle.gate_log.specs.declared.limits.TheConstants.{BODY_LENGTHS};
-ghost use Rattle.relay_row.specs.Bodies.{rows_body};
+ghost use Rattle.row_codec.specs.Bodies.{rows_body};
 ghost use Rattle.store_cut.specs.Rereading.{BreaksOrder, GrowsInOrder};
 ghost use Rattle.store_cut.specs.Rewriting.{AllShort, IsShort, IsCopied, RewriteHasNoRoom, IsOfAdding, IsOfRewriting};
 ghost use Rattle.relay_store.specs.declared.fault.StoreFault.{StoreFault as TheFault};
@@ -16,7 +16,8 @@ use event_window::Window;
 use gate_log::Build;
 use relay_core::Core;
 use relay_disk::Disk;
-use relay_row::{Row, write_row};
+use relay_row::Row;
+use row_codec::write_row;
 use relay_store::{StoreFault, learn_row};
 use std::collections::VecDeque;
 
@@ -30,7 +31,7 @@ pub(crate) struct Rewrite {
 }
 
 // Puts the body of one row together.
-#[tactic(auto, unfolding(relay_row::specs::Bodies::rows_body))]
+#[tactic(auto, unfolding(row_codec::specs::Bodies::rows_body))]
 fn encode_body(body: &mut Octets, row: &Row) -> Result<(), Memory>
     requires short { IsShort row.now }
     ensures body { OnOk result (body.new ≡ rows_body (row.now ∷ [])) }

@@ -12,7 +12,7 @@ use Rattle.at_cbor.specs.declared.major.Major.{Major}
 use Rattle.at_cbor.specs.Encoding.{front_of}
 use Rattle.at_cbor.specs.Taking.{number_at}
 use Rattle.at_cbor.proofs.Taken.{number_again}
-use Rattle.relay_row.specs.Bodies.{rows_body, row_encoding, encoded_rows, IsBody}
+use Rattle.row_codec.specs.Bodies.{rows_body, row_encoding, encoded_rows, IsBody}
 use Rattle.relay_row.specs.Rules.{is_row}
 use Rattle.relay_row.specs.declared.row.Row.{Row}
 

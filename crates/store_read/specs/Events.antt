@@ -8,7 +8,7 @@ use Rattle.gate_log.specs.declared.format.Format.{Format}
 use Rattle.gate_log.specs.Image.{made}
 use Rattle.gate_log.specs.Log.{LogState, IsOn}
 use Rattle.gate_log.specs.Log.{HoldsBodies as HasBodies}
-use Rattle.relay_row.specs.Bodies.{encoded_rows}
+use Rattle.row_codec.specs.Bodies.{encoded_rows}
 use Rattle.relay_row.specs.Folds.{events_in}
 use Rattle.relay_row.specs.Rules.{is_row}
 use Rattle.relay_row.specs.declared.row.Row.{Row}

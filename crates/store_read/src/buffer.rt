@@ -8,7 +8,7 @@ ghost use Rattle.event_window.specs.declared.fault.EventsFault.{EventsFault};
 ghost use Rattle.gate_log.specs.Image.{made};
 ghost use Rattle.gate_log.specs.declared.fault.LogFault.{LogFault};
 ghost use Rattle.gate_log.specs.Log.{HoldsBodies as HasBodies, IsOn};
-ghost use Rattle.relay_row.specs.Bodies.{IsBody, rows_body, row_encoding, encoded_rows};
+ghost use Rattle.row_codec.specs.Bodies.{IsBody, rows_body, row_encoding, encoded_rows};
 ghost use Rattle.relay_row.specs.Rules.{is_row};
 ghost use Rattle.relay_row.specs.declared.row.Row.{Row as TheRow};
 ghost use Rattle.row_peek.specs.Peeked.{Sees};

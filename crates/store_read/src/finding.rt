@@ -7,7 +7,7 @@ ghost use Rattle.event_window.specs.Held.{damage_after};
 ghost use Rattle.event_window.specs.declared.fault.EventsFault.{EventsFault};
 ghost use Rattle.gate_log.specs.Image.{made};
 ghost use Rattle.gate_log.specs.Log.{HoldsBodies as HasBodies, IsOn};
-ghost use Rattle.relay_row.specs.Bodies.{IsBody, encoded_rows, rows_body, row_encoding};
+ghost use Rattle.row_codec.specs.Bodies.{IsBody, encoded_rows, rows_body, row_encoding};
 ghost use Rattle.relay_row.specs.Folds.{events_in};
 ghost use Rattle.relay_row.specs.Rules.{is_row};
 ghost use Rattle.relay_row.specs.declared.row.Row.{Row as TheRow};

@@ -14,7 +14,7 @@ use Rattle.gate_log.specs.Image.{IsMade}
 use Rattle.gate_log.specs.Crash.{IsBeforeOrAfter}
 use Rattle.gate_log.specs.Log.{LogState}
 use Rattle.gate_log.specs.Log.{HoldsBodies as HasBodies}
-use Rattle.relay_row.specs.Bodies.{rows_body}
+use Rattle.row_codec.specs.Bodies.{rows_body}
 use Rattle.relay_row.specs.Journal.{IsJournal}
 use Rattle.relay_row.specs.declared.row.Row.{Row}
 use Rattle.relay_core.specs.declared.journal_state.Core.{Core}

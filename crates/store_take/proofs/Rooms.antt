@@ -9,9 +9,9 @@ use Rattle.gate_log.specs.Log.{LogState}
 use Rattle.gate_log.specs.declared.fault.LogFault.{LogFault}
 use Rattle.gate_log.specs.declared.pending_bodies.TheConstants.{AHEAD}
 use Rattle.gate_log.specs.declared.limits.TheConstants.{BEFORE_BODY}
-use Rattle.relay_row.specs.Bodies.{rows_body, row_encoding, encoded_rows}
+use Rattle.row_codec.specs.Bodies.{rows_body, row_encoding, encoded_rows}
 use Rattle.relay_row.specs.declared.row.Row.{Row}
-use Rattle.relay_row.proofs.Bodies.{encoded_joined}
+use Rattle.row_codec.proofs.Bodies.{encoded_joined}
 use Rattle.relay_store.specs.PendingBodies.{Fits, FitsWith, HasRows, IsFull, IsFullWith, pending_end, behind_pending, cut_to, pending_body, length_with}
 use Rattle.relay_store.specs.declared.pending.Pending.{Pending}
 use Rattle.relay_store.proofs.Encodings.{pending_is, length_body, length_one}

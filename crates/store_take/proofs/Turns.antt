@@ -6,9 +6,9 @@ use Rattle.event_window.specs.declared.place.Place.{Place}
 use Rattle.gate_log.specs.Log.{LogState}
 use Rattle.gate_log.specs.declared.pending_bodies.TheConstants.{AHEAD}
 use Rattle.at_event.specs.Frames.{frame_of}
-use Rattle.relay_row.specs.Bodies.{row_encoding, encoded_rows}
+use Rattle.row_codec.specs.Bodies.{row_encoding, encoded_rows}
 use Rattle.relay_row.specs.declared.row.Row.{Row}
-use Rattle.relay_row.proofs.Bodies.{encoded_joined}
+use Rattle.row_codec.proofs.Bodies.{encoded_joined}
 use Rattle.relay_core.specs.declared.journal_state.Core.{Core}
 use Rattle.relay_core.specs.Entries.{Holds}
 use Rattle.relay_step.specs.Around.{Around}

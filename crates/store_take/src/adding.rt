@@ -13,7 +13,8 @@ ghost use Rattle.relay_store.specs.declared.fault.StoreFault.{StoreFault as TheF
 use event_window::Window;
 use gate_log::{AHEAD, AROUND_BODY, BEFORE_BODY, BODY_LENGTHS, Log};
 use relay_core::Core;
-use relay_row::{NewRow, Row, write_new_row, write_row};
+use relay_row::{NewRow, Row};
+use row_codec::{write_new_row, write_row};
 use relay_store::{Pending, StoreFault, learn_row, list_front_len};
 use std::alloc::Global;
 

@@ -8,7 +8,8 @@ use at_cbor::write_list_front;
 use at_cid::{Memory, NUMBERS, Octets};
 use at_event::{Frame, read_frame};
 use relay_core::{Answers, Core, Decision, Next, Question};
-use relay_row::{NewRow, write_new_row};
+use relay_row::NewRow;
+use row_codec::write_new_row;
 use std::mem;
 use vector_lines::Case;
 

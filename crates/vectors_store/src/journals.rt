@@ -2,7 +2,8 @@
 
 use at_cid::Octets;
 use relay_core::Core;
-use relay_row::{Row, Rows, read_rows, write_encoded, write_row, write_rows};
+use relay_row::Row;
+use row_codec::{Rows, read_rows, write_encoded, write_row, write_rows};
 use std::{fs, mem};
 use vector_lines::Case;
 

@@ -6,7 +6,7 @@ use at_event::Head;
 use at_syntax::{TID_LEN, Tid};
 use host_state::Hosts;
 use relay_core::Core;
-use relay_row::read_rows;
+use row_codec::read_rows;
 use std::mem;
 use vector_lines::Case;
 

@@ -2,7 +2,7 @@ use Rattle.std.proofs.Common.{◌≡◌, ◌∷◌, ℕ, List, length, ap, arith
 use Rattle.std.proofs.lemmas.Result.{IfOk-weaker}
 use Rattle.gate_log.specs.Image.{made}
 use Rattle.gate_log.specs.Log.{HoldsBodies as HasBodies}
-use Rattle.relay_row.specs.Bodies.{IsBody, rows_body}
+use Rattle.row_codec.specs.Bodies.{IsBody, rows_body}
 use Rattle.relay_row.specs.declared.row.Row.{Row}
 use Rattle.relay_store.specs.Journals.{bytes_of}
 use Rattle.relay_store.proofs.InBodies.{body_inside}

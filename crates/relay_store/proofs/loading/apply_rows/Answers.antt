@@ -1,5 +1,5 @@
 use Rattle.std.proofs.Common.{rules, ◌≡◌, Err, refl}
-use Rattle.relay_row.specs.declared.fault.RowFault.{RowFault}
+use Rattle.row_codec.specs.declared.fault.RowFault.{RowFault}
 use Rattle.relay_store.proofs.RowsApplied.{applying_more, applying_stops, no_rows_were}
 use Rattle.relay_store.proofs.loading.apply_rows.Goals as goal
 

@@ -1,12 +1,12 @@
 use Rattle.std.proofs.Common.{◌≡◌, ◌∙◌, ◌<◌, true, ℕ, List, Result, Err, length, ap, arith, subst, sym}
 use Rattle.std.specs.List.{list_all}
 use Rattle.gate_log.specs.declared.limits.TheConstants.{BODY_LENGTHS}
-use Rattle.relay_row.specs.Answers.{ReadsBody}
-use Rattle.relay_row.specs.Bodies.{IsBody, rows_body}
+use Rattle.row_codec.specs.Answers.{ReadsBody}
+use Rattle.row_codec.specs.Bodies.{IsBody, rows_body}
 use Rattle.relay_row.specs.Rules.{is_row}
-use Rattle.relay_row.specs.declared.fault.RowFault.{RowFault}
+use Rattle.row_codec.specs.declared.fault.RowFault.{RowFault}
 use Rattle.relay_row.specs.declared.row.Row.{Row}
-use Rattle.relay_row.proofs.Bodies.{same_rows}
+use Rattle.row_codec.proofs.Bodies.{same_rows}
 use Rattle.store_cut.specs.Rewriting.{AllShort}
 use Rattle.relay_store.specs.declared.fault.StoreFault.{StoreFault}
 use Rattle.relay_store.proofs.Opened.{log_bad}

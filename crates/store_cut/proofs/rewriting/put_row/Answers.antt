@@ -2,7 +2,7 @@ use Rattle.std.proofs.Common.{◌≡◌, ◌∙◌, ◌∷◌, ◌+◌, ◌++◌
 use Rattle.gate_log.specs.Build.{HasBuilt}
 use Rattle.gate_log.specs.declared.fault.LogFault.{LogFault}
 use Rattle.gate_log.specs.declared.limits.TheConstants.{AROUND_BODY, BEFORE_BODY}
-use Rattle.relay_row.specs.Bodies.{rows_body}
+use Rattle.row_codec.specs.Bodies.{rows_body}
 use Rattle.relay_store.specs.Faults.{of_log}
 use Rattle.relay_store.specs.Places.{place_of}
 use Rattle.relay_store.specs.declared.fault.StoreFault.{StoreFault}

@@ -1,7 +1,7 @@
 use Rattle.std.proofs.Common.{◌≡◌, ◌∙◌, ℕ, List, Option, Some, None, length}
 use Rattle.at_cbor.specs.Encoding.{front_of}
 use Rattle.at_cbor.specs.declared.major.Major.{Major}
-use Rattle.relay_row.specs.Bodies.{encoded_rows}
+use Rattle.row_codec.specs.Bodies.{encoded_rows}
 use Rattle.store_read.proofs.Buffering.{body_front, if_some, rows_behind, starts, starts_some}
 use Rattle.store_read.proofs.buffer.first_row.Goals as goal
 

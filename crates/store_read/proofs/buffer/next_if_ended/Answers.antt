@@ -1,6 +1,6 @@
 use Rattle.std.proofs.Common.{◌∙◌, ◌++◌, ap, refl, sym, take}
 use Rattle.std.proofs.lemmas.Option.{same_Some}
-use Rattle.relay_row.specs.Bodies.{encoded_rows, row_encoding}
+use Rattle.row_codec.specs.Bodies.{encoded_rows, row_encoding}
 use Rattle.row_peek.specs.Passing.{ended_row}
 use Rattle.store_read.proofs.Buffering.{behind_front, if_some, is_none, is_some, no_borrow, some_behind, some_encoded, starts, starts_some}
 use Rattle.store_read.proofs.buffer.next_if_ended.Goals as goal

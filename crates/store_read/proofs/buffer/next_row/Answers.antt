@@ -1,5 +1,5 @@
 use Rattle.std.proofs.Common.{◌∙◌, ◌++◌, refl, sym, take}
-use Rattle.relay_row.specs.Bodies.{encoded_rows}
+use Rattle.row_codec.specs.Bodies.{encoded_rows}
 use Rattle.store_read.proofs.Buffering.{behind_front, empty_rows, if_some, is_none, is_some, no_borrow, none_behind, some_behind, starts, starts_some}
 use Rattle.store_read.proofs.buffer.next_row.Goals as goal
 

@@ -1,7 +1,7 @@
 use Rattle.std.proofs.Common.{◌≡◌, ◌∙◌, ℕ, List, Err, ⊎_elim, ap, drop, subst, sym}
 use Rattle.event_window.specs.declared.fault.EventsFault.{EventsFault}
 use Rattle.gate_log.specs.declared.fault.LogFault.{LogFault}
-use Rattle.relay_row.specs.Bodies.{IsBody, encoded_rows}
+use Rattle.row_codec.specs.Bodies.{IsBody, encoded_rows}
 use Rattle.store_read.proofs.buffer.rows_at.Goals as goal
 
 pub returns-in-Err-clause-no_bad_log : goal.returns-in-Err-clause-no_bad_log

@@ -1,6 +1,6 @@
 use Rattle.std.proofs.Common.{◌∙◌}
 use Rattle.std.proofs.lemmas.Result.{on_ok_weaker, on_err_weaker}
-use Rattle.relay_row.specs.Bodies.{row_encoding}
+use Rattle.row_codec.specs.Bodies.{row_encoding}
 use Rattle.store_take.proofs.Rooms.{cut_again, fits_again, full_of}
 use Rattle.store_take.proofs.adding.add_row.Goals as goal
 

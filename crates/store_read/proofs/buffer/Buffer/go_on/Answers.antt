@@ -1,5 +1,5 @@
 use Rattle.std.proofs.Common.{◌≡◌, ◌∙◌, ℕ, arith, ap, drop, subst, sym}
-use Rattle.relay_row.specs.Bodies.{encoded_rows}
+use Rattle.row_codec.specs.Bodies.{encoded_rows}
 use Rattle.store_read.specs.Events.{BufferState}
 use Rattle.store_read.proofs.Buffering.{formed_behind, one_more, past_all}
 use Rattle.store_read.proofs.buffer.Buffer.go_on.Goals as goal

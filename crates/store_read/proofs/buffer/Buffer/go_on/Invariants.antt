@@ -1,6 +1,6 @@
 use Rattle.std.proofs.Common.{◌≡◌, ◌≤◌, ◌-◌, true, List, drop}
 use Rattle.std.specs.List.{list_all}
-use Rattle.relay_row.specs.Bodies.{encoded_rows}
+use Rattle.row_codec.specs.Bodies.{encoded_rows}
 use Rattle.relay_row.specs.Rules.{is_row}
 use Rattle.relay_row.specs.declared.row.Row.{Row}
 use Rattle.store_read.proofs.buffer.Buffer.go_on.Given as goal

@@ -1,0 +1,12 @@
+pub mod Loops
+pub mod Steps
+pub mod Atoms
+pub mod ByKind
+pub mod Counts
+pub mod Found
+pub mod FoundRows
+pub mod Again
+pub mod AgainRows
+pub mod Bodies
+pub mod BytesFronts
+pub mod Left

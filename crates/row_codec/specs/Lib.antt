@@ -1,0 +1,7 @@
+pub mod Items
+pub mod Bodies
+pub mod Readers
+pub mod Reading
+pub mod Answers
+pub mod Laws
+pub mod Left
