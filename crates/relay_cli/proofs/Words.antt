@@ -1,7 +1,7 @@
 -- What a command does, on texts that are equal.
 use Rattle.std.proofs.Common.{◌≡◌, ℕ, Bool, List, Option, subst, sym}
 use Rattle.account_state.specs.Folds.{account}
-use Rattle.state_lines.specs.Lines.{account_text}
+use Rattle.report_lines.specs.StateLines.{account_text}
 use Rattle.relay_disk.specs.Disk.{View}
 use Rattle.run_base.specs.declared.status.Status.{Status}
 use Rattle.relay_cli.specs.declared.command.Command.{Command}

@@ -28,7 +28,7 @@ use Rattle.read_run.specs.Guests.{ServedAt}
 use Rattle.read_run.specs.Lines.{LinesWritten}
 use Rattle.read_run.specs.Queried.{AnsweredBy}
 use Rattle.read_run.specs.Replayed.{Replayed}
-use Rattle.state_lines.specs.Lines.{account_text, hosts_text}
+use Rattle.report_lines.specs.StateLines.{account_text, hosts_text}
 use Rattle.store_take.specs.declared.message.Message.{Message}
 use Rattle.take_run.specs.Tapes.{AreRecords, encoded_records}
 use Rattle.trial_run.specs.Tried.{MayEndTrying, Tried}

@@ -11,7 +11,7 @@ use Rattle.account_state.specs.State.{State}
 use Rattle.host_state.specs.Folds.{hosts}
 use Rattle.host_state.specs.Table.{listed}
 use Rattle.host_state.specs.declared.hosts.Hosts.{Hosts}
-use Rattle.state_lines.specs.Lines.{account_text, hosts_text}
+use Rattle.report_lines.specs.StateLines.{account_text, hosts_text}
 use Rattle.relay_step.specs.Around.{Around}
 use Rattle.relay_store.specs.Journals.{IsPairImageOf}
 use Rattle.relay_store.specs.Opening.{IsOfReading, Opened}

@@ -15,7 +15,7 @@ ghost use Rattle.relay_run.specs.Shown.{TextShown};
 ghost use Rattle.run_base.specs.Ends.{AreOnlyRead, Ended, HoldsJournal, HoldsNone};
 ghost use Rattle.run_base.specs.Place.{Part, the_clock, the_judges, the_repos};
 ghost use Rattle.run_base.specs.Reading.{AtMostLogMade, AtMostLogWritten};
-ghost use Rattle.state_lines.specs.Lines.{account_text, hosts_text};
+ghost use Rattle.report_lines.specs.StateLines.{account_text, hosts_text};
 
 use crate::answering::{answer, show};
 use crate::cut_line::answer_cut;
@@ -24,7 +24,7 @@ use at_cid::ghost_text;
 use relay_disk::Disk;
 use relay_io::{Clock, Repos, Sink};
 use run_base::{Outside, Seen, Status};
-use state_lines::{account_line, host_lines};
+use report_lines::{account_line, host_lines};
 use std::alloc::Global;
 
 /// The commands on the journal of two disks that an operator gives. Each opens the store, does its work and writes what came of it. No row

@@ -8,7 +8,7 @@ use Rattle.relay_gen.specs.Names.{generated_did}
 use Rattle.relay_row.specs.Folds.{last_seq}
 use Rattle.relay_row.specs.declared.row.Row.{Row}
 use Rattle.report_lines.specs.Lines.{numbered}
-use Rattle.state_lines.specs.Lines.{account_text}
+use Rattle.report_lines.specs.StateLines.{account_text}
 
 -- 1 for a repository whose last commit is known
 abbrev pub one_known : Repo → ℕ

@@ -13,8 +13,7 @@ use account_state::{Account, Repo};
 use at_cid::{Memory, Octets, cid_of};
 use relay_gen::did_of;
 use relay_store::Store;
-use report_lines::{add_link, add_number};
-use state_lines::account_line;
+use report_lines::{account_line, add_link, add_number};
 use std::alloc::Global;
 
 // How many accounts a made history has.

@@ -1,6 +1,6 @@
 use Rattle.std.proofs.Common.{ap, sym, ◌∙◌}
 use Rattle.relay_gen.specs.Names.{generated_did}
-use Rattle.state_lines.specs.Lines.{account_text}
+use Rattle.report_lines.specs.StateLines.{account_text}
 use Rattle.trial_run.proofs.summing.are_same.Goals as goal
 
 pub returns-then-not-branch-clause-same : goal.returns-then-not-branch-clause-same

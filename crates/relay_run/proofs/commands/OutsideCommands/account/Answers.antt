@@ -2,7 +2,7 @@ use Rattle.std.proofs.Common.{◌∙◌, inl, inr, Err, refl, ap}
 use Rattle.std.specs.Prelude.{option_map}
 use Rattle.account_state.specs.Folds.{account as account_of}
 use Rattle.account_state.specs.State.{state_of}
-use Rattle.state_lines.specs.Lines.{account_text}
+use Rattle.report_lines.specs.StateLines.{account_text}
 use Rattle.relay_run.proofs.Seen.{account_is, shown_opened, shown_unopened}
 use Rattle.relay_store.specs.declared.fault.StoreFault.{StoreFault}
 use Rattle.run_base.specs.Deeds.{answered, in_vain}

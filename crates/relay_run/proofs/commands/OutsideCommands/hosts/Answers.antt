@@ -1,6 +1,6 @@
 use Rattle.std.proofs.Common.{◌∙◌, inl, inr, Err, refl, ap}
 use Rattle.host_state.specs.Folds.{hosts as hosts_of}
-use Rattle.state_lines.specs.Lines.{hosts_text}
+use Rattle.report_lines.specs.StateLines.{hosts_text}
 use Rattle.relay_run.proofs.Seen.{hosts_are, shown_opened, shown_unopened}
 use Rattle.relay_store.specs.declared.fault.StoreFault.{StoreFault}
 use Rattle.run_base.specs.Deeds.{answered, in_vain}

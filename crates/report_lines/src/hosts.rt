@@ -2,11 +2,11 @@
 
 ghost use Rattle.std.specs.Prelude.{◌≡◌, ◌++◌, ◌∷◌, [], IfOk, OnOk, codes, decimal};
 ghost use Rattle.host_state.specs.Table.{listed};
-ghost use Rattle.state_lines.specs.Lines.{host_text, hosts_text};
+ghost use Rattle.report_lines.specs.StateLines.{host_text, hosts_text};
 
+use crate::pieces::add_number;
 use at_cid::{Memory, Octets};
 use host_state::Hosts;
-use report_lines::add_number;
 use std::alloc::Global;
 
 fn add_host(lines: &mut Octets, host: &str, cursor: u64) -> Result<(), Memory>

@@ -6,14 +6,14 @@ ghost use Rattle.std.specs.Option.{unwrap_or};
 ghost use Rattle.at_syntax.specs.Tid.{digits_of};
 ghost use Rattle.account_state.specs.Folds.{fresh};
 ghost use Rattle.account_state.specs.State.{state_of};
-ghost use Rattle.state_lines.specs.Lines.{account_text, active_word, down_word, good_words, link_word, repo_words, shown_byte, status_word};
+ghost use Rattle.report_lines.specs.StateLines.{account_text, active_word, down_word, good_words, link_word, repo_words, shown_byte, status_word};
 
+use crate::pieces::add_link;
 use account_state::{Account, Repo};
 use at_cid::{Cid, Memory, Octets};
 use at_event::Head;
 use at_syntax::{TID_LEN, Tid};
 use percent_encoding::percent_encode_byte;
-use report_lines::add_link;
 use std::alloc::Global;
 
 fn add_byte(line: &mut Octets, byte: u8) -> Result<(), Memory>

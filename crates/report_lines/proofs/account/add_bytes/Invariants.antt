@@ -1,7 +1,7 @@
 use Rattle.std.proofs.Common.{◌≡◌, ◌++◌, length}
 use Rattle.std.specs.List.{flat_map}
-use Rattle.state_lines.specs.Lines.{shown_byte}
-use Rattle.state_lines.proofs.account.add_bytes.Given as goal
+use Rattle.report_lines.specs.StateLines.{shown_byte}
+use Rattle.report_lines.proofs.account.add_bytes.Given as goal
 
 abbrev pub decreases-bytes : goal.decreases-bytes
 decreases-bytes l = length l.rest

@@ -1,8 +1,0 @@
-//! The lines that show an account and the hosts of a journal.
-#![tactic(auto)]
-
-mod account;
-mod hosts;
-
-pub use account::account_line;
-pub use hosts::host_lines;
