@@ -9,3 +9,6 @@ pub mod Again
 pub mod Notices
 pub mod Reading
 pub mod Needing
+pub mod Trusting
+pub mod Making
+pub mod Journals

@@ -1,7 +1,9 @@
-//! The laws of a relay behind a relay, each the contract of a function that does nothing.
+//! The laws of a relay after a relay, each the contract of a function that does nothing.
 
+ghost use Rattle.chain_law.specs.GivenLaws.{OperatedAreGiven, OwnJournalsAreGiven, StepsAreGiven, SyncedAreGiven};
 ghost use Rattle.chain_law.specs.Laws.{EventsAreRead, RelaysFollow, RelaysGoOn, RunsFollow};
 ghost use Rattle.chain_law.specs.Needed.{PremisesAreNeeded};
+ghost use Rattle.chain_law.specs.Trust.{TrustingStepsShow};
 
 /// Of each account whose whole history a relay serves, a relay behind it accepts all events, in order.
 pub fn relays_follow()
@@ -26,4 +28,29 @@ pub fn events_are_read()
 /// Premises without which an account isn't followed.
 pub fn premises_are_needed()
     ensures { PremisesAreNeeded }
+{}
+
+/// Before judges who say yes to everything, no row shows another home or a bad signature.
+pub fn trusting_steps_show()
+    ensures { TrustingStepsShow }
+{}
+
+/// After rows that are given, the rows of steps are given too.
+pub fn steps_are_given()
+    ensures { StepsAreGiven }
+{}
+
+/// So is the row of an account that is taken down or restored.
+pub fn operated_are_given()
+    ensures { OperatedAreGiven }
+{}
+
+/// And the row of a repository that is fetched at an operator's command.
+pub fn synced_are_given()
+    ensures { SyncedAreGiven }
+{}
+
+/// Each journal that a relay's own commands make from an empty one is given.
+pub fn own_journals_are_given()
+    ensures { OwnJournalsAreGiven }
 {}

@@ -32,8 +32,8 @@ use Rattle.take_run.specs.Ingested.{Followed}
 use Rattle.take_run.specs.Tapes.{AreRecords}
 use Rattle.take_run.proofs.Joining.{journal_joined}
 use Rattle.take_run.proofs.Records.{records_front}
-use Rattle.trust_law.specs.Trust.{Trusts}
-use Rattle.trust_law.proofs.Trusting.{steps_show}
+use Rattle.chain_law.specs.Trust.{Trusts}
+use Rattle.chain_law.proofs.Trusting.{steps_show}
 use Rattle.chain_run.specs.Chained.{AccountsFollow, AccountsGoOn, AllTaken, Chained}
 use Rattle.chain_run.specs.declared.journals.TheConstants.{MOST_SERVED}
 use Rattle.chain_run.proofs.Again.{served_go_on}

@@ -26,7 +26,7 @@ use Rattle.take_run.specs.Taken.{Unopened}
 use Rattle.take_run.specs.declared.tally.Tally.{Tally}
 use Rattle.take_run.proofs.FeedSteps.{left_same}
 use Rattle.take_run.proofs.OnTwo.{took, whole}
-use Rattle.trust_law.specs.Trust.{Trusts}
+use Rattle.chain_law.specs.Trust.{Trusts}
 use Rattle.chain_run.specs.Chained.{ChainRan, IsChained}
 use Rattle.chain_run.specs.Disks.{BothShow, CountedOf, Disks, HaveJournal, StandAgain}
 use Rattle.chain_run.specs.Ends.{BothOpened, ChainTold, MayEndChaining}

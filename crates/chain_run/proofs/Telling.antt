@@ -12,7 +12,7 @@ use Rattle.run_base.proofs.Ended.{counted_behind}
 use Rattle.take_run.specs.Ends.{FaultsTold, MayEndFollowing}
 use Rattle.take_run.specs.Going.{NothingFailed}
 use Rattle.take_run.proofs.Telling.{faults_on, nothing_here, nothing_on, nothing_told, same_faults}
-use Rattle.trust_law.specs.Trust.{Trusts}
+use Rattle.chain_law.specs.Trust.{Trusts}
 use Rattle.chain_run.specs.Disks.{CountedOf, Disks}
 use Rattle.chain_run.specs.Ends.{ChainTold, IsTold, MayEndChaining, ended_by, read_as}
 use Rattle.chain_run.specs.Streams.{ReadsOn, kept_faults}

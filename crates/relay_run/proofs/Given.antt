@@ -20,9 +20,9 @@ use Rattle.relay_step.specs.Commands.{OperatedAt, SyncedAt, rows_commanded}
 use Rattle.relay_step.specs.Fetching.{AreBytes, told_where}
 use Rattle.relay_step.specs.Operators.{IsOperated, IsSyncedBy, IsSyncedNow}
 use Rattle.relay_step.specs.declared.command.CommandAnswer.{CommandAnswer}
-use Rattle.given_law.specs.Made.{GiveBytes, IsOfBytes}
-use Rattle.given_law.proofs.Journals.{cut_given}
-use Rattle.given_law.proofs.Making.{joined_given, operated_given, synced_given}
+use Rattle.chain_law.specs.Made.{GiveBytes, IsOfBytes}
+use Rattle.chain_law.proofs.Journals.{cut_given}
+use Rattle.chain_law.proofs.Making.{joined_given, operated_given, synced_given}
 
 -- what a command leaves of such a journal
 abbrev pub Gives : Type 0 → List Row → CommandAnswer → Type 0

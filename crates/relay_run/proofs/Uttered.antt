@@ -11,7 +11,7 @@ use Rattle.relay_core.specs.declared.journal_state.Core.{Core}
 use Rattle.relay_step.specs.Around.{Around}
 use Rattle.relay_step.specs.Commands.{rows_commanded}
 use Rattle.relay_step.specs.declared.command.CommandAnswer.{CommandAnswer}
-use Rattle.given_law.specs.Made.{GiveBytes}
+use Rattle.chain_law.specs.Made.{GiveBytes}
 use Rattle.store_take.specs.Commands.{IsAnswer, CommandDone, Commanded, added, done_of, done_row}
 use Rattle.relay_store.specs.Faults.{IsCause}
 use Rattle.relay_store.specs.Journals.{IsOneOf, IsPairImageOf}

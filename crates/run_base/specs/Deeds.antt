@@ -10,7 +10,7 @@ use Rattle.relay_law.specs.Heads.{IsFaithfulJournal}
 use Rattle.relay_law.specs.Right.{LinksRight}
 use Rattle.relay_law.specs.Sound.{IsSound}
 use Rattle.chain_law.specs.Given.{AreGiven}
-use Rattle.given_law.specs.Made.{GiveBytes}
+use Rattle.chain_law.specs.Made.{GiveBytes}
 use Rattle.relay_store.specs.Journals.{IsPairImageOf}
 use Rattle.relay_store.specs.Pairs.{IsOneOfPair, StandsFor}
 use Rattle.relay_store.specs.Room.{PairHasRoom}

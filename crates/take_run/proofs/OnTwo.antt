@@ -21,8 +21,8 @@ use Rattle.relay_store.specs.declared.fault.StoreFault.{StoreFault}
 use Rattle.relay_store.specs.declared.store.Store.{Store}
 use Rattle.relay_store.proofs.Beside.{ComesBeside, image_of_side, leaves_on, leaves_stand, log_front, opened_keeps, opened_leaves, run_on, stands_on, view_now, view_on}
 use Rattle.relay_store.proofs.OnDisk.{pair_has_no_room, pair_has_room}
-use Rattle.given_law.specs.Made.{AreOfBytes}
-use Rattle.given_law.proofs.Making.{steps_given}
+use Rattle.chain_law.specs.Made.{AreOfBytes}
+use Rattle.chain_law.proofs.Making.{steps_given}
 use Rattle.run_base.specs.Ends.{Shows}
 use Rattle.run_base.specs.Place.{Faults, Tells, at_place}
 use Rattle.run_base.specs.Statuses.{status_of_fault}

@@ -2,7 +2,7 @@ use Rattle.std.proofs.Common.{◌≡◌, ◌∙◌, inl, inr, Ok, Err, IsTrue, r
 use Rattle.std.specs.Prelude.{⊤}
 use Rattle.relay_step.specs.Causes.{OneTaken}
 use Rattle.relay_step.specs.Commands.{OperatedAt}
-use Rattle.given_law.specs.Made.{GiveBytes}
+use Rattle.chain_law.specs.Made.{GiveBytes}
 use Rattle.relay_store.specs.Faults.{IsCause}
 use Rattle.relay_store.specs.Store.{seen_in}
 use Rattle.relay_store.specs.declared.fault.StoreFault.{StoreFault}

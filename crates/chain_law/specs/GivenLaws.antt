@@ -10,7 +10,7 @@ use Rattle.relay_step.specs.Operators.{IsOperated, IsSyncedNow}
 use Rattle.relay_step.specs.Steps.{Step, AreSteps, rows}
 use Rattle.relay_step.specs.declared.command.CommandAnswer.{CommandAnswer}
 use Rattle.chain_law.specs.Given.{AreGiven, IsGiven}
-use Rattle.given_law.specs.Made.{AreOfBytes, IsOfBytes, GiveBytes, ComeByCommands}
+use Rattle.chain_law.specs.Made.{AreOfBytes, IsOfBytes, GiveBytes, ComeByCommands}
 
 -- Behind rows that are given, the rows of steps are given, where the repositories that tell give
 -- bytes.

@@ -36,8 +36,8 @@ use Rattle.relay_step.specs.Operators.{IsFetchCommand, IsSyncedBy}
 use Rattle.relay_step.specs.declared.command.CommandAnswer.{CommandAnswer}
 use Rattle.relay_step.specs.Steps.{Step, Decided, after_end, skipped, recorded, AreSteps, IsDecidedAs, ended_decided, message_of, rows, rows_decided}
 use Rattle.chain_law.specs.Given.{AreGiven, IsFoundOfRepository, IsGiven, IsOfEvent, IsOfRepository}
-use Rattle.given_law.specs.Laws.{OperatedAreGiven, StepsAreGiven, SyncedAreGiven}
-use Rattle.given_law.specs.Made.{AreOfBytes, GiveBytes, IsOfBytes}
+use Rattle.chain_law.specs.GivenLaws.{OperatedAreGiven, StepsAreGiven, SyncedAreGiven}
+use Rattle.chain_law.specs.Made.{AreOfBytes, GiveBytes, IsOfBytes}
 
 -- ---- what was taken over of a repository is what its bytes come to
 

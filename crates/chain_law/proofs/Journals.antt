@@ -17,9 +17,9 @@ use Rattle.relay_core.specs.Decide.{Checks, whole_under}
 use Rattle.relay_core.specs.Operating.{operate_refusal, operated_as, sync_refusal}
 use Rattle.relay_law.specs.Histories.{IsCut}
 use Rattle.chain_law.specs.Given.{AreGiven, IsFoundOfRepository, IsGiven, IsOfEvent, IsOfRepository, IsOfSync, IsOfTakedown, event_taken_at}
-use Rattle.given_law.specs.Laws.{OwnJournalsAreGiven}
-use Rattle.given_law.specs.Made.{ChangesAccount, ComeByCommands, ComesByCommand, SyncsAccount, TakesMessages}
-use Rattle.given_law.proofs.Making.{joined_given, operated_given, steps_given, synced_given}
+use Rattle.chain_law.specs.GivenLaws.{OwnJournalsAreGiven}
+use Rattle.chain_law.specs.Made.{ChangesAccount, ComeByCommands, ComesByCommand, SyncsAccount, TakesMessages}
+use Rattle.chain_law.proofs.Making.{joined_given, operated_given, steps_given, synced_given}
 
 -- ---- behind another journal that comes to the same
 

@@ -39,7 +39,7 @@ use Rattle.relay_law.proofs.Sounding.{taken_is}
 use Rattle.relay_step.specs.Around.{Around, AllAsked}
 use Rattle.relay_step.specs.Asked.{step_calls, home_calls, refresh_calls, signed_by, verdict_call, verdict_calls}
 use Rattle.relay_step.specs.Steps.{Step, Decided, after_end, skipped, recorded, AreSteps, IsDecidedAs, message_of, rows, rows_decided, ended_decided}
-use Rattle.trust_law.specs.Trust.{TrustingStepsShow}
+use Rattle.chain_law.specs.Trust.{TrustingStepsShow}
 use Rattle.std.specs.Prelude.{nat_lt}
 
 -- ---- authorities of whom the only one says yes

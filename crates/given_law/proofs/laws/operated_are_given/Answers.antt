@@ -1,5 +1,0 @@
-use Rattle.given_law.proofs.Making.{operated_given}
-use Rattle.given_law.proofs.laws.operated_are_given.Goals as goal
-
-pub returns : goal.returns
-returns c = operated_given
