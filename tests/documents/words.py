@@ -8,7 +8,7 @@ from pages import Page, runs
 
 TOP = pathlib.Path(__file__).resolve().parents[2]
 TOP_CRATES = ("relay_cli", "relay_chain", "program_parts", "os_edge", "run_base", "take_run", "relay_run", "read_run",
-              "mirror_run", "chain_run", "trial_run")
+              "mirror_run", "trial_run")
 HELP_CRATES = ("relay_cli", "relay_chain", "program_parts", "os_edge")  # whose texts are printed
 # What stands after "tells" where it means "reports". Of an object that contracts see through one says that it tells what it
 # holds, or tells nothing: that is a word of the glossary (docs/CONTRIBUTING.md).

@@ -4,9 +4,9 @@ use Rattle.relay_disk.specs.Disk.{View}
 use Rattle.relay_store.specs.declared.limits.TheConstants.{LONGEST}
 use Rattle.run_base.specs.Place.{Place, Tells}
 use Rattle.run_base.specs.declared.status.Status.{Status}
-use Rattle.chain_run.specs.Chained.{ChainRan}
-use Rattle.chain_run.specs.Disks.{Disks, two_disks}
-use Rattle.chain_run.specs.Ends.{MayEndChaining}
+use Rattle.relay_chain.specs.Chained.{ChainRan}
+use Rattle.relay_chain.specs.Disks.{Disks, two_disks}
+use Rattle.relay_chain.specs.Ends.{MayEndChaining}
 use Rattle.relay_chain.specs.Runs.{AreHost, second_place}
 
 first_is : (given host : List ℕ) → given ∷ [] ≡ host ∷ [] → given ≡ host

@@ -1,1 +1,9 @@
+pub mod Few
+pub mod Serving
+pub mod Again
+pub mod Telling
+pub mod Showing
+pub mod FirstPair
+pub mod AsFeed
+pub mod SecondPair
 pub mod Hosts

@@ -1,13 +1,21 @@
-//! A relay that follows another one: what the first serves is taken by the second as messages of a host.
+//! A relay that follows another one: what the first serves of its journal is taken into the journal of the second as messages of a
+//! host, from opening to the last line of the report.
 #![tactic(auto)]
 
+mod commands;
 mod help;
+mod journals;
+mod laws;
 mod meaning;
 mod running;
+mod stream;
 
 use at_cid::Memory;
 use at_syntax::host_ok;
+pub use commands::Chains;
 use help::{HELP, VERSION};
+pub use journals::MOST_SERVED;
+pub use laws::served_follow;
 use meaning::report_end;
 use os_edge::{
     Access, FileRepos, Journal, Reporter, SystemClock, Unopened, WriterSink, are_apart,

@@ -5,13 +5,13 @@ ghost use Rattle.at_cid.specs.Counts.{Rose};
 ghost use Rattle.relay_row.specs.declared.row.Row.{Row as TheRow};
 ghost use Rattle.relay_store.specs.Opening.{BothOnlyRead};
 ghost use Rattle.run_base.specs.Place.{tells_of};
-ghost use Rattle.chain_run.specs.Chained.{ChainRan};
-ghost use Rattle.chain_run.specs.Disks.{HaveJournal, two_disks};
+ghost use Rattle.relay_chain.specs.Chained.{ChainRan};
+ghost use Rattle.relay_chain.specs.Disks.{HaveJournal, two_disks};
 ghost use Rattle.relay_chain.specs.Runs.{AreHost, second_place};
 
+use crate::commands::Chains;
 use at_authority::TrustAll;
 use at_syntax::host_ok;
-use chain_run::Chains;
 use relay_disk::Disk;
 use relay_io::{Clock, Repos, Sink};
 use relay_store::LONGEST;

@@ -3,7 +3,7 @@ use Rattle.at_cid.specs.Counts.{Rose}
 use Rattle.gate_log.specs.declared.picking.Side.TheVariants.{One, Two}
 use Rattle.relay_store.specs.Opening.{BothOnlyRead}
 use Rattle.run_base.specs.Place.{the_clock, the_output, the_repos}
-use Rattle.chain_run.proofs.SecondPair.{both_still}
+use Rattle.relay_chain.proofs.SecondPair.{both_still}
 use Rattle.relay_chain.proofs.Hosts.{at_both, disks_same, none_so, place_same, ran_for, usage_for}
 use Rattle.relay_chain.proofs.running.chain.Goals as goal
 

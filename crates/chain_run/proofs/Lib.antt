@@ -1,8 +1,0 @@
-pub mod Few
-pub mod Serving
-pub mod Again
-pub mod Telling
-pub mod Showing
-pub mod FirstPair
-pub mod AsFeed
-pub mod SecondPair

@@ -1,6 +1,0 @@
-pub mod Ends
-pub mod Streams
-pub mod Disks
-pub mod Taking
-pub mod Laws
-pub mod Chained

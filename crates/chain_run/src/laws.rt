@@ -1,8 +1,0 @@
-//! The law of what a relay serves, the contract of a function that does nothing.
-
-ghost use Rattle.chain_run.specs.Laws.{ServedFollow};
-
-/// Where a host sends all that a relay serves, the accounts whose whole history the relay shows follow.
-pub fn served_follow()
-    ensures { ServedFollow }
-{}
