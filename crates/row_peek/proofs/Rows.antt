@@ -163,7 +163,7 @@ taken_passes t h =
             (
               number_passes t.kind (omega (arith, r.kind)),
               (
-                number_passes (code t.refusal) (code_fits t.refusal r.refusal),
+                number_passes (code t.refusal) (omega (arith, code_fits t.refusal r.refusal)),
                 (
                   detail_passes t h,
                   (

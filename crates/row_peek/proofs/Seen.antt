@@ -96,7 +96,7 @@ taken_seen t rest h =
     rw (scalars_passed (Item.text t.host ∷ number t.host_seq ∷ []) named (r.host.0.0, (number_short t.host_seq r.host_seq, tt)))
     (rw (text_again t.did (encoding (number t.kind) ++ decided) r.did)
     (rw (number_again Major.Unsigned t.kind decided (omega (arith, r.kind)))
-    (rw (items_passed (number (code t.refusal) ∷ list (detail_items t.refusal) ∷ []) out (scalar_passes (number (code t.refusal)) (code_fits t.refusal r.refusal), (detail_passes t h, tt)))
+    (rw (items_passed (number (code t.refusal) ∷ list (detail_items t.refusal) ∷ []) out (scalar_passes (number (code t.refusal)) (omega (arith, code_fits t.refusal r.refusal)), (detail_passes t h, tt)))
     (rw (outcome_seen t rest r) refl))))
 
 -- ---- rows
