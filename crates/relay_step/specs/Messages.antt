@@ -20,10 +20,12 @@ use Rattle.relay_core.specs.declared.journal_state.Core.{Core}
 use Rattle.relay_law.specs.Right.{LinksRight}
 use Rattle.relay_step.specs.Around.{Around, AskedOf, OneAsked, SameRepositories}
 use Rattle.relay_step.specs.Asked.{event_calls}
+use Rattle.relay_step.specs.Causes.{IsCause, IsSpentFor}
 use Rattle.relay_step.specs.Commands.{IsNow}
 use Rattle.relay_step.specs.Fetching.{IsFetched}
 use Rattle.relay_step.specs.Steps.{Decided, skipped, recorded, Step, IsDecidedAs}
 use Rattle.relay_step.specs.declared.decided.Skipped.{Skipped}
+use Rattle.relay_step.specs.declared.fault.StepFault.{StepFault}
 use Rattle.relay_step.specs.declared.decided.Decided.{Decided as Outcome}
 
 -- why a message that makes no row makes none, as it reads
@@ -101,3 +103,11 @@ pub record EndsNumbers (clock_tells repos_tell : Bool) (c : Core) (old : Around)
       → AskedFor clock_tells repos_tell J old host event taken.refusal outside new
   pub gives : seq_in (Row.Taken taken) ≡ c.last + 1
   pub ends : NUMBERS ≤ c.last + 1
+
+-- The cause of a fault in which a message of this frame ends; the repositories and the clock have
+-- theirs.
+abbrev pub IsFrameCause : Bool → Bool → Core → Around → List ℕ → Result Frame FrameFault → Around
+    → Type 0 → Type 0 → StepFault → Type 0
+IsFrameCause clock_tells repos_tell core old host frame new repos clock =
+    IsCause (EndsNumbers clock_tells repos_tell core old host frame new)
+    (IsSpentFor core host frame new.panel) repos clock

@@ -8,8 +8,8 @@ ghost use Rattle.at_event.specs.Frames.{frame_of};
 ghost use Rattle.at_event.specs.declared.frame.Frame.{Frame as AFrame};
 ghost use Rattle.relay_step.specs.Around.{SameAsked, around_of};
 ghost use Rattle.relay_step.specs.Asked.{AskedInVain};
-ghost use Rattle.relay_step.specs.Causes.{AskedInVainOf, CameToNothing, IsCause, IsSpentFor, OneTaken, SpendsNone};
-ghost use Rattle.relay_step.specs.Messages.{EndsNumbers, IsAsked, IsAskedOf, IsDecided, IsSkippedAs, KeepsJournal, told_as};
+ghost use Rattle.relay_step.specs.Causes.{AskedInVainOf, CameToNothing, IsCause, OneTaken, SpendsNone};
+ghost use Rattle.relay_step.specs.Messages.{IsAsked, IsAskedOf, IsDecided, IsFrameCause, IsSkippedAs, KeepsJournal, told_as};
 ghost use Rattle.relay_step.specs.Steps.{rows_decided, step_of};
 ghost use Rattle.relay_step.specs.Taking.{EventDecided, OtherDecided, is_event};
 
@@ -47,8 +47,7 @@ fn decide_event<P: Judges, R: Repos, C: Clock>(
     ensures caused { let old = around_of P.panel C.moments R.repository asked.old in
         let new = around_of P.panel C.moments R.repository asked.new in
         let frame = Ok (AFrame.Event event) in
-        IfErr result (IsCause (EndsNumbers C.tells R.tells core.now old host.now frame new)
-        (IsSpentFor core.now host.now frame new.panel)
+        IfErr result (IsFrameCause C.tells R.tells core.now old host.now frame new
         (Rose (R.faults asked.old.repos.now) (R.faults asked.new.repos.now))
         (Rose (C.faults asked.old.clock.now) (C.faults asked.new.clock.now))) }
     ensures clock_counts { C.faults asked.old.clock.now ≤ C.faults asked.new.clock.now }
@@ -126,9 +125,7 @@ fn decide_frame<P: Judges, R: Repos, C: Clock>(
         (AskedInVainOf old.panel (Ok frame) new.panel) old new) }
     ensures caused { let old = around_of P.panel C.moments R.repository asked.old in
         let new = around_of P.panel C.moments R.repository asked.new in
-        IfErr result
-        (IsCause (EndsNumbers C.tells R.tells core.now old host.now (Ok frame) new)
-        (IsSpentFor core.now host.now (Ok frame) new.panel)
+        IfErr result (IsFrameCause C.tells R.tells core.now old host.now (Ok frame) new
         (Rose (R.faults asked.old.repos.now) (R.faults asked.new.repos.now))
         (Rose (C.faults asked.old.clock.now) (C.faults asked.new.clock.now))) }
     ensures clock_counts { C.faults asked.old.clock.now ≤ C.faults asked.new.clock.now }
@@ -184,8 +181,7 @@ pub fn decide_message<P: Judges, R: Repos, C: Clock>(
     ensures caused { let old = around_of P.panel C.moments R.repository asked.old in
         let new = around_of P.panel C.moments R.repository asked.new in
         let frame = frame_of message.now in
-        IfErr result (IsCause (EndsNumbers C.tells R.tells core.now old host.now frame new)
-        (IsSpentFor core.now host.now frame new.panel)
+        IfErr result (IsFrameCause C.tells R.tells core.now old host.now frame new
         (Rose (R.faults asked.old.repos.now) (R.faults asked.new.repos.now))
         (Rose (C.faults asked.old.clock.now) (C.faults asked.new.clock.now))) }
     ensures clock_counts { C.faults asked.old.clock.now ≤ C.faults asked.new.clock.now }
