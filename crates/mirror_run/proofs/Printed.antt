@@ -5,9 +5,9 @@ use Rattle.at_cid.specs.Order.{key_cmp}
 use Rattle.relay_io.specs.Streams.{AddsFront}
 use Rattle.mirror.specs.State.{is_known}
 use Rattle.mirror.specs.declared.keeping.Mirror.{Mirror}
-use Rattle.run_base.specs.Ends.{Writes}
+use Rattle.run_base.specs.Ends.{IsFinished, IsUnwritten, Writes}
 use Rattle.run_base.specs.declared.status.Status.{Status}
-use Rattle.mirror_run.specs.Printing.{AreKnown, IsLate, IsUnwritten, Moves, line_in, lines_in}
+use Rattle.mirror_run.specs.Printing.{AreKnown, Moves, line_in, lines_in}
 use Rattle.mirror_run.proofs.Walking.{IsWalking, lines_more, lines_split, next_left, none_left, starts}
 
 -- a front was added that is all but this
@@ -105,7 +105,7 @@ module _ (lines waiting last old mid new : List ℕ) (m : Moves old mid lines wa
 abbrev TextWritten : List ℕ → List ℕ → List ℕ → Status → Type 0
 TextWritten text old new status = Writes status [] text old new
 
-pub ended : (status : Status) (lines waiting last old mid new : List ℕ) → IsLate status → Moves old mid lines waiting → Writes status [] (waiting ++ last) mid new → Writes status [] (lines ++ last) old new
+pub ended : (status : Status) (lines waiting last old mid new : List ℕ) → IsFinished status → Moves old mid lines waiting → Writes status [] (waiting ++ last) mid new → Writes status [] (lines ++ last) old new
 ended status lines waiting last old mid new (inl is) m h =
     subst (TextWritten (lines ++ last) old new) (sym is) (all_ended lines waiting last old mid new m (subst (TextWritten (waiting ++ last) mid new) is h))
 ended status lines waiting last old mid new (inr (inl is)) m h =

@@ -11,12 +11,12 @@ use Rattle.mirror.specs.Taken.{is_bad, last_behind}
 use Rattle.mirror.specs.declared.fault.MirrorFault.{MirrorFault}
 use Rattle.mirror.specs.declared.keeping.Mirror.{Mirror}
 use Rattle.at_cid.specs.Counts.{Counted}
-use Rattle.run_base.specs.Ends.{Writes}
+use Rattle.run_base.specs.Ends.{IsFinished, Writes}
 use Rattle.run_base.specs.declared.status.Status.{Status}
 use Rattle.mirror_run.specs.Ends.{MayEndBad, MayEndMirroring, MayEndWhole}
 use Rattle.mirror_run.specs.Lines.{mirror_end_line}
 use Rattle.mirror_run.specs.Mirrored.{AreLines, IsRestLeft, IsMirrorText, Mirrored}
-use Rattle.mirror_run.specs.Printing.{AreKnown, IsLate, lines_in}
+use Rattle.mirror_run.specs.Printing.{AreKnown, lines_in}
 use Rattle.mirror_run.specs.Reading.{HasNoMessage, IsNext, IsSpent, coming}
 use Rattle.mirror_run.specs.Stream.{AreGood, BeginWith, IsBadBehind, IsBadFrom, last_seq_behind}
 use Rattle.mirror_run.specs.Taking.{HasStopped, HasTaken, HasTakenAll, IsEarly, status_of_message, status_of_stream}
@@ -148,7 +148,7 @@ module _ (input_tells tell : Bool) (repositories : Repositories) (input left : L
 -- ---- what a short input of which nothing is hidden comes to
 
 abbrev IsEnd : Status → Type 0
-IsEnd status = IsLate status ⊎ IsEarly status
+IsEnd status = IsFinished status ⊎ IsEarly status
 
 may : (status : Status) → IsEnd status → MayEndMirroring status
 may status (inl (inl is)) = subst MayEndMirroring (sym is) tt
@@ -160,7 +160,7 @@ may status (inr (inr (inr (inl is)))) = subst MayEndMirroring (sym is) tt
 may status (inr (inr (inr (inr (inl is))))) = subst MayEndMirroring (sym is) tt
 may status (inr (inr (inr (inr (inr is))))) = subst MayEndMirroring (sym is) tt
 
-pub may_late : (status : Status) → IsLate status → MayEndMirroring status
+pub may_late : (status : Status) → IsFinished status → MayEndMirroring status
 may_late status late = may status (inl late)
 
 pub may_early : (status : Status) → IsEarly status → MayEndMirroring status
@@ -213,13 +213,13 @@ module _ (limit : ℕ) (input : List ℕ) (messages ms : List (List ℕ)) (rest 
 
 -- ---- together
 
-left_late : (limit : ℕ) (status : Status) (messages : List (List ℕ)) → IsLate status → IsRestLeft limit status messages []
+left_late : (limit : ℕ) (status : Status) (messages : List (List ℕ)) → IsFinished status → IsRestLeft limit status messages []
 left_late limit status messages (inl is) = subst (λ (s : Status). IsRestLeft limit s messages []) (sym is) refl
 left_late limit status messages (inr (inl is)) = subst (λ (s : Status). IsRestLeft limit s messages []) (sym is) refl
 left_late limit status messages (inr (inr is)) = subst (λ (s : Status). IsRestLeft limit s messages []) (sym is) tt
 
 pub mirrored_all : (input_tells output_tells tell : Bool) (limit : ℕ) (repositories : Repositories) (input old new : List ℕ) (status : Status) (mirror : Mirror) (events : ℕ)
-    → HasTakenAll input_tells tell repositories input mirror events → IsLate status
+    → HasTakenAll input_tells tell repositories input mirror events → IsFinished status
     → (IsTrue output_tells → (dids : List (List ℕ)) → AreKnown mirror dids → Writes status [] (lines_in mirror dids ++ mirror_end_line events) old new)
     → Mirrored input_tells output_tells tell limit repositories input old new status
 mirrored_all input_tells output_tells tell limit repositories input old new status mirror events (place, t) late h =

@@ -1,10 +1,9 @@
 -- What is written of a mirror. No public clause cites this file.
-use Rattle.std.specs.Prelude.{◌≡◌, ◌⊎◌, ℕ, List, ◌++◌}
+use Rattle.std.specs.Prelude.{◌≡◌, ℕ, List, ◌++◌}
 use Rattle.std.specs.List.{flat_map, list_any}
 use Rattle.std.specs.Str.{bytes_eq}
 use Rattle.mirror.specs.State.{held_by, is_known}
 use Rattle.mirror.specs.declared.keeping.Mirror.{Mirror}
-use Rattle.run_base.specs.declared.status.Status.{Status}
 use Rattle.mirror_run.specs.Lines.{mirror_line}
 use Rattle.mirror_run.specs.Mirrored.{Ascend}
 
@@ -25,11 +24,3 @@ pub record Moves (old new text waiting : List ℕ) : Type 0 where
   pub done : List ℕ
   pub added : new ≡ old ++ done
   pub split : text ≡ done ++ waiting
-
--- a call of the output failed, or memory ran out
-abbrev pub IsUnwritten : Status → Type 0
-IsUnwritten status = (status ≡ Status.WriteFault) ⊎ (status ≡ Status.Memory)
-
--- or all was written
-abbrev pub IsLate : Status → Type 0
-IsLate status = (status ≡ Status.Done) ⊎ IsUnwritten status

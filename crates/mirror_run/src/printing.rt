@@ -4,9 +4,9 @@ ghost use Rattle.std.specs.Prelude.{◌≡◌, ◌++◌, ℕ, List, [], false, I
 ghost use Rattle.relay_io.specs.Streams.{AddsFront};
 ghost use Rattle.mirror.specs.State.{is_known};
 ghost use Rattle.mirror_run.specs.Lines.{mirror_end_line};
-ghost use Rattle.mirror_run.specs.Printing.{AreKnown, IsLate, IsUnwritten, Moves, line_in, lines_in};
+ghost use Rattle.mirror_run.specs.Printing.{AreKnown, Moves, line_in, lines_in};
 ghost use Rattle.at_cid.specs.Counts.{Counted};
-ghost use Rattle.run_base.specs.Ends.{Writes};
+ghost use Rattle.run_base.specs.Ends.{IsFinished, IsUnwritten, Writes};
 
 use crate::line::{end_line, map_line, waiting_line};
 use at_cid::{Memory, Octets};
@@ -92,7 +92,7 @@ fn write_accounts<O: Sink>(
 fn write_end<O: Sink>(alloc: Global, events: u64, out: &mut O, text: &mut Octets) -> Status
     ensures written { IsTrue O.tells → Writes result [] (text.old ++ mirror_end_line events)
         (O.written out.old) (O.written out.new) }
-    ensures wrote { IsLate result }
+    ensures wrote { IsFinished result }
     ensures counts { Counted (result ≡ Status.WriteFault) (O.faults out.old) (O.faults out.new) }
 {
     let line = match end_line(alloc, events) {
@@ -120,7 +120,7 @@ pub(crate) fn write_text<O: Sink>(
     ensures written { IsTrue O.tells → (dids : List (List ℕ)) → AreKnown mirror.now dids
         → Writes result [] (lines_in mirror.now dids ++ mirror_end_line events)
         (O.written out.old) (O.written out.new) }
-    ensures wrote { IsLate result }
+    ensures wrote { IsFinished result }
     ensures counts { Counted (result ≡ Status.WriteFault) (O.faults out.old) (O.faults out.new) }
 {
     let mut text = Octets::new(alloc);

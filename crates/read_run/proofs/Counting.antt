@@ -4,16 +4,17 @@ use Rattle.std.proofs.lemmas.List.{append-nil}
 use Rattle.event_window.specs.Held.{Held}
 use Rattle.relay_store.specs.Opening.{IsOfReading}
 use Rattle.relay_store.specs.declared.fault.StoreFault.{StoreFault}
-use Rattle.run_base.specs.Ends.{Writes}
+use Rattle.run_base.specs.Ends.{IsFinished, IsUnwritten, Writes}
 use Rattle.run_base.specs.Statuses.{status_of_fault}
 use Rattle.run_base.specs.declared.status.Status.{Status}
+use Rattle.run_base.proofs.Ended.{by_finished, by_unwritten}
 use Rattle.read_run.specs.AtDoor.{AtDoor, NobodyComes, IsStill, IsStopped, GuestAccepted, Visited}
-use Rattle.read_run.specs.Ends.{IsFinished, IsUnmet, IsUnwritten}
+use Rattle.read_run.specs.Ends.{IsUnmet}
 use Rattle.read_run.specs.Guests.{GuestsServed, IsBehind, session_lines, sessions_end}
 use Rattle.read_run.specs.Sessions.{Visit, sessions_end_line, lines_behind, session_line}
 use Rattle.read_run.specs.declared.session.Session.{Session}
 use Rattle.read_run.proofs.Accepts.{lines_more, visited_more, visited_none}
-use Rattle.read_run.proofs.Ending.{by_finished, by_unmet, by_unwritten, last_written, line_unwritten, lines_unmet}
+use Rattle.read_run.proofs.Ending.{by_unmet, last_written, line_unwritten, lines_unmet}
 
 -- While guests are served: these visits were made, and their lines written.
 pub record IsServing (tells told : Bool) (served : ℕ) (held : Held) (door door_now : AtDoor) (old now : List ℕ) : Type 0

@@ -8,12 +8,12 @@ use Rattle.relay_store.specs.Journals.{IsBadPairJournalAt, IsPairImageOf}
 use Rattle.relay_store.specs.Opening.{IsOfReading}
 use Rattle.relay_store.specs.declared.fault.StoreFault.{StoreFault}
 use Rattle.backfill.proofs.Framing.{front_of_first, front_of_second, front_whole}
-use Rattle.run_base.specs.Ends.{Caused, Shows, Writes}
+use Rattle.run_base.specs.Ends.{Caused, IsFinished, IsUnwritten, Shows, Writes}
 use Rattle.run_base.specs.Place.{Place, Tells}
 use Rattle.run_base.specs.Statuses.{status_of_fault}
 use Rattle.run_base.specs.declared.status.Status.{Status}
-use Rattle.run_base.proofs.Ended.{fault_caused, other_status, reading_shows}
-use Rattle.read_run.specs.Ends.{IsFinished, IsUnasked, IsUnmet, IsUnread, IsUnwritten, MayEnd, ReadEnded}
+use Rattle.run_base.proofs.Ended.{by_finished, by_unwritten, fault_caused, other_status, reading_shows}
+use Rattle.read_run.specs.Ends.{IsUnasked, IsUnmet, IsUnread, MayEnd, ReadEnded}
 
 -- ---- by the status
 
@@ -40,18 +40,6 @@ by_status door wire P done write disk bad memory next request (Status.Refused co
 by_status door wire P done write disk bad memory next request Status.Clock may = absurd may
 by_status door wire P done write disk bad memory next request (Status.BadStream place) may = absurd may
 by_status door wire P done write disk bad memory next request Status.Wire may = request may
-
--- a line that isn't written
-pub by_unwritten : (P : Status → Type 0) → P Status.WriteFault → P Status.Memory → (status : Status)
-    → IsUnwritten status → P status
-by_unwritten P write memory status (inl is) = subst P (sym is) write
-by_unwritten P write memory status (inr is) = subst P (sym is) memory
-
--- or the last one, which may be
-pub by_finished : (P : Status → Type 0) → P Status.Done → P Status.WriteFault → P Status.Memory → (status : Status)
-    → IsFinished status → P status
-by_finished P done write memory status (inl is) = subst P (sym is) done
-by_finished P done write memory status (inr un) = by_unwritten P write memory status un
 
 -- an event that isn't read
 pub by_unread : (P : Status → Type 0) → P Status.Memory → P Status.Disk → ((place : ℕ) → P (Status.BadLog place))

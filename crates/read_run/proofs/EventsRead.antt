@@ -8,11 +8,12 @@ use Rattle.backfill.specs.Faults.{damage_replayed, damage_served}
 use Rattle.backfill.specs.declared.replay_fault.ReplayFault.{ReplayFault}
 use Rattle.backfill.specs.declared.serve_fault.ServeFault.{ServeFault}
 use Rattle.backfill.specs.declared.serving.Served.{Served}
+use Rattle.run_base.specs.Ends.{IsFinished, status_in}
 use Rattle.run_base.specs.declared.status.Status.{Status}
-use Rattle.read_run.specs.Ends.{IsFinished, damage_told, session_after, status_in, status_of_events, status_of_replay}
+use Rattle.run_base.proofs.Ended.{by_finished}
+use Rattle.read_run.specs.Ends.{damage_told, session_after, status_of_events, status_of_replay}
 use Rattle.read_run.specs.Events.{WasRead, WereRead}
 use Rattle.read_run.specs.declared.session.Session.{Session}
-use Rattle.read_run.proofs.Ending.{by_finished}
 
 -- ---- statuses that the disks have no part in
 

@@ -9,11 +9,12 @@ use Rattle.backfill.specs.Served.{rising_above}
 use Rattle.backfill.proofs.Above.{above_first, above_none}
 use Rattle.backfill.proofs.Framing.{front_of_first, front_of_second, front_whole}
 use Rattle.json_lines.specs.Lines.{lines_read}
-use Rattle.run_base.specs.Ends.{Writes}
+use Rattle.run_base.specs.Ends.{IsUnwritten, Writes}
 use Rattle.run_base.specs.declared.status.Status.{Status}
-use Rattle.read_run.specs.Ends.{IsUnread, IsUnwritten}
+use Rattle.run_base.proofs.Ended.{by_unwritten}
+use Rattle.read_run.specs.Ends.{IsUnread}
 use Rattle.read_run.specs.Lines.{AddsLines, AreLines, lines_above, lines_in}
-use Rattle.read_run.proofs.Ending.{by_unwritten, lines_unmet}
+use Rattle.read_run.proofs.Ending.{lines_unmet}
 
 -- the lines of the events above one number are written, and those of the events above another one are left
 pub record IsLining (told : Bool) (collection : Option (List ℕ)) (events : List Event) (first last : ℕ)

@@ -10,14 +10,15 @@ use Rattle.relay_store.specs.Opening.{IsOfReading}
 use Rattle.relay_store.specs.declared.fault.StoreFault.{StoreFault}
 use Rattle.relay_query.specs.Replies.{IsReplyTo}
 use Rattle.backfill.proofs.Framing.{front_of_first, front_whole}
-use Rattle.run_base.specs.Ends.{Writes}
+use Rattle.run_base.specs.Ends.{IsFinished, IsUnwritten, Writes, status_in}
 use Rattle.run_base.specs.Statuses.{status_of_fault}
 use Rattle.run_base.specs.declared.status.Status.{Status}
+use Rattle.run_base.proofs.Ended.{by_finished, by_unwritten}
 use Rattle.read_run.specs.AtWire.{AtWire}
-use Rattle.read_run.specs.Ends.{IsFinished, IsUnasked, IsUnwritten, status_in}
+use Rattle.read_run.specs.Ends.{IsUnasked}
 use Rattle.read_run.specs.Queried.{Answered, RequestsAreTaken, Comes, IsStill, IsUnreplied, Queried, Replied, queries_end, query_lines}
 use Rattle.read_run.specs.Rounds.{RoundsAreCounted, AreReplies, IsSendCounted, Round, queries_end_line, exchanges_of, round_lines, request_line, requests_of, sent_of, told_of}
-use Rattle.read_run.proofs.Ending.{by_finished, by_unasked, by_unwritten, last_written, line_unwritten, lines_unasked}
+use Rattle.read_run.proofs.Ending.{by_unasked, last_written, line_unwritten, lines_unasked}
 
 -- n requests were answered, and a line was written for each
 pub record IsQuerying (tells told : Bool) (J : List Row) (n : ℕ) (first now : AtWire) (before after : List ℕ) : Type 0

@@ -50,11 +50,6 @@ pub record ReadEnded (hidden : Type 0) (t : Tells) (old new : Place) (status : S
 
 -- ---- how a part ends
 
--- in order, where it has an answer
-abbrev pub status_in : {A : Type 0} → Result A Status → Status
-status_in (Ok done) = Status.Done
-status_in (Err status) = status
-
 -- by a fault of the events
 abbrev pub status_of_events : EventsFault → Status
 status_of_events EventsFault.Disk = Status.Disk
@@ -74,14 +69,6 @@ session_after (ServeFault.Door events) = Ok (Session.Failed events)
 session_after ServeFault.Disk = Err Status.Disk
 session_after ServeFault.Memory = Err Status.Memory
 session_after (ServeFault.BadLog place) = Err (Status.BadLog place)
-
--- a line isn't written: the output failed, or memory ran out
-abbrev pub IsUnwritten : Status → Type 0
-IsUnwritten status = (status ≡ Status.WriteFault) ⊎ (status ≡ Status.Memory)
-
--- or the last line was written
-abbrev pub IsFinished : Status → Type 0
-IsFinished status = (status ≡ Status.Done) ⊎ IsUnwritten status
 
 -- an event isn't read: memory ran out, or the disks ended it
 abbrev pub IsUnread : Status → Type 0

@@ -2,8 +2,7 @@
 
 ghost use Rattle.std.specs.Prelude.{◌≡◌, [], Err, IfErr, IsTrue};
 ghost use Rattle.at_cid.specs.Counts.{Counted};
-ghost use Rattle.run_base.specs.Ends.{Writes};
-ghost use Rattle.read_run.specs.Ends.{IsFinished, IsUnwritten, status_in};
+ghost use Rattle.run_base.specs.Ends.{IsFinished, IsUnwritten, Writes, status_in};
 
 use relay_io::{Sink, write_all};
 use run_base::Status;

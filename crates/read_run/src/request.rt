@@ -2,8 +2,7 @@
 
 ghost use Rattle.std.specs.Prelude.{◌≡◌, [], IfErr, IfOk, IsTrue, Err};
 ghost use Rattle.at_cid.specs.Counts.{Counted};
-ghost use Rattle.run_base.specs.Ends.{Writes};
-ghost use Rattle.read_run.specs.Ends.{IsFinished, IsUnwritten, status_in};
+ghost use Rattle.run_base.specs.Ends.{IsFinished, IsUnwritten, Writes, status_in};
 ghost use Rattle.read_run.specs.Rounds.{queries_end_line, request_line};
 
 use crate::line::{end_with, write_line};

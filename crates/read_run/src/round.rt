@@ -5,7 +5,7 @@ ghost use Rattle.relay_row.specs.declared.row.Row.{Row as TheRow};
 ghost use Rattle.relay_core.specs.Entries.{Holds};
 ghost use Rattle.at_cid.specs.Counts.{Counted};
 ghost use Rattle.read_run.specs.AtWire.{at_wire};
-ghost use Rattle.read_run.specs.Ends.{IsUnwritten};
+ghost use Rattle.run_base.specs.Ends.{IsUnwritten};
 ghost use Rattle.read_run.specs.Queried.{Answered};
 ghost use Rattle.read_run.specs.Rounds.{status_code_in};
 

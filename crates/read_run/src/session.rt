@@ -3,8 +3,7 @@
 ghost use Rattle.std.specs.Prelude.{◌≡◌, ◌++◌, [], IfOk, OnOk, IfErr, IsTrue, Err};
 ghost use Rattle.report_lines.specs.Lines.{numbered};
 ghost use Rattle.at_cid.specs.Counts.{Counted};
-ghost use Rattle.run_base.specs.Ends.{Writes};
-ghost use Rattle.read_run.specs.Ends.{IsFinished, IsUnwritten, status_in};
+ghost use Rattle.run_base.specs.Ends.{IsFinished, IsUnwritten, Writes, status_in};
 ghost use Rattle.read_run.specs.Sessions.{sessions_end_line, session_line, told};
 
 use crate::line::{end_with, write_line};

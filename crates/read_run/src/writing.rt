@@ -8,8 +8,8 @@ ghost use Rattle.relay_store.specs.Shown.{held_by};
 ghost use Rattle.relay_store.specs.Store.{IsKept, Keeps, seen_in};
 ghost use Rattle.json_lines.specs.Lines.{lines_read};
 ghost use Rattle.at_cid.specs.Counts.{Counted};
-ghost use Rattle.run_base.specs.Ends.{Writes};
-ghost use Rattle.read_run.specs.Ends.{IsOfDisks, IsUnread, IsUnwritten, MayEndReading, status_in};
+ghost use Rattle.run_base.specs.Ends.{IsUnwritten, Writes, status_in};
+ghost use Rattle.read_run.specs.Ends.{IsOfDisks, IsUnread, MayEndReading};
 ghost use Rattle.read_run.specs.Events.{WasRead, WereRead};
 ghost use Rattle.read_run.specs.Lines.{AddsLines, AreLines};
 

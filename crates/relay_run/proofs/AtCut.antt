@@ -13,7 +13,7 @@ use Rattle.store_cut.specs.declared.cutting.CutDone.{CutDone}
 use Rattle.relay_store.specs.declared.fault.StoreFault.{StoreFault}
 use Rattle.relay_store.specs.declared.store.Store.{Store}
 use Rattle.relay_store.proofs.Beside.{leaves_stand, opened_leaves}
-use Rattle.run_base.specs.Cutting.{CutCame, IsUnwritten}
+use Rattle.run_base.specs.Cutting.{CutCame, EndsRewriting}
 use Rattle.run_base.specs.Deeds.{answered, in_vain, unopened}
 use Rattle.run_base.specs.Ends.{Writes}
 use Rattle.run_base.specs.Place.{Faults, Place, Tells, at_place}
@@ -40,7 +40,7 @@ still_run {D = D} view is_disk c d e f J same stands =
 
 -- a journal that wasn't written anew isn't bad
 pub came_good : (most : ℕ) (J : List Row) (c : ℕ) (one two : View) (fault : StoreFault) → CutCame most J c one two (Err fault) → (p : ℕ) → fault ≡ StoreFault.BadLog p → ⊥
-came_good most J c one two fault was p is = subst (IsUnwritten most (cut J c) one.content two.content) is was.1
+came_good most J c one two fault was p is = subst (EndsRewriting most (cut J c) one.content two.content) is was.1
 
 module _ {S : Type 0} (place : S → Place) (mid : S) (one two : View) (t : Tells) (told : IsTrue t.disk) (most number : ℕ) (J : List Row) (first : IsDisk (place mid).one) (second : IsDisk (place mid).two) (image : IsPairImageOf J one.content two.content)
     (around around_now : Around) (written : List ℕ) (failed failed_now : Faults) where

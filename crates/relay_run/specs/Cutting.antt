@@ -9,7 +9,7 @@ use Rattle.relay_store.specs.Journals.{IsPairImageOf}
 use Rattle.relay_store.specs.Opening.{IsOfReading}
 use Rattle.store_cut.specs.declared.cutting.CutDone.{CutDone}
 use Rattle.relay_store.specs.declared.fault.StoreFault.{StoreFault}
-use Rattle.run_base.specs.Cutting.{IsAnswerOf, IsUnwritten}
+use Rattle.run_base.specs.Cutting.{IsAnswerOf, EndsRewriting}
 use Rattle.run_base.specs.Deeds.{Came, Deed, OnDisks, WasOpened, answered, in_vain, unopened}
 use Rattle.run_base.specs.Place.{Place, Tells}
 use Rattle.run_base.specs.Statuses.{status_of_fault}
@@ -22,7 +22,7 @@ abbrev pub IsCutCome : ℕ → List Row → ℕ → List ℕ → List ℕ → St
 IsCutCome most J c one two status unopened = (fault : StoreFault)
     × (status ≡ status_of_fault fault) × IsOfReading fault
 IsCutCome most J c one two status in_vain = (fault : StoreFault)
-    × (status ≡ status_of_fault fault) × MayCut J c × IsUnwritten most (cut J c) one two fault
+    × (status ≡ status_of_fault fault) × MayCut J c × EndsRewriting most (cut J c) one two fault
 IsCutCome most J c one two status (answered done) = IsAnswerOf most J c one two done
     × EndsCut done status
 

@@ -22,7 +22,7 @@ use Rattle.relay_store.specs.Store.{Keeps, StoreState}
 use Rattle.store_cut.specs.declared.cutting.CutDone.{CutDone}
 use Rattle.relay_store.specs.declared.fault.StoreFault.{StoreFault}
 use Rattle.relay_store.proofs.Beside.{kept_front, kept_stands}
-use Rattle.run_base.specs.Cutting.{CutCame, IsAnswerOf, IsOfFormat, IsUnwritten, IsWrittenAnew}
+use Rattle.run_base.specs.Cutting.{CutCame, IsAnswerOf, IsOfFormat, EndsRewriting, IsWrittenAnew}
 
 -- ---- two disks
 
@@ -120,7 +120,7 @@ written_anew side most K format log one two v picked former there is limit below
 }
 
 unwritten_by : (most : ℕ) (K : List Row) (format : Format) (one two : List ℕ) (fault : StoreFault) → IsOfRewriting fault → ((p : ℕ) → fault ≡ StoreFault.BadLog p → ⊥) → (fault ≢ StoreFault.Disk → IsOfFormat format one two)
-    → ((e : ℕ) → fault ≡ StoreFault.Full e → RewriteHasNoRoom (length (front (Format.Two (generation format + 1)))) most K e) → IsUnwritten most K one two fault
+    → ((e : ℕ) → fault ≡ StoreFault.Full e → RewriteHasNoRoom (length (front (Format.Two (generation format + 1)))) most K e) → EndsRewriting most K one two fault
 unwritten_by most K format one two StoreFault.Disk of good log full = tt
 unwritten_by most K format one two (StoreFault.BadLog p) of good log full = absurd (good p refl)
 unwritten_by most K format one two (StoreFault.Full e) of good log full = (format, log (full_not e), full e refl)

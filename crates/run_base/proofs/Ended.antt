@@ -12,11 +12,25 @@ use Rattle.relay_store.specs.Journals.{IsBadPairJournalAt, IsPairImageOf}
 use Rattle.relay_store.specs.Opening.{BothOnlyRead, IsOfReading, Opened}
 use Rattle.relay_store.specs.declared.fault.StoreFault.{StoreFault}
 use Rattle.run_base.specs.Deeds.{by_end}
-use Rattle.run_base.specs.Ends.{Caused, Ended, IsQuiet, Shows, Writes}
+use Rattle.run_base.specs.Ends.{Caused, Ended, IsFinished, IsQuiet, IsUnwritten, Shows, Writes}
 use Rattle.run_base.specs.Place.{Faults, Part, Place, Tells, stays_of, the_clock, the_judges, the_output, the_repos}
 use Rattle.run_base.specs.declared.outside.Outside.{Outside}
 use Rattle.run_base.specs.Statuses.{status_of_fault}
 use Rattle.run_base.specs.declared.status.Status.{Status}
+
+-- ---- a line that was written, or wasn't
+
+-- what holds at each status that may come holds at the one that came: where what is to be written isn't
+pub by_unwritten : (P : Status → Type 0) → P Status.WriteFault → P Status.Memory → (status : Status)
+    → IsUnwritten status → P status
+by_unwritten P write memory status (inl is) = subst P (sym is) write
+by_unwritten P write memory status (inr is) = subst P (sym is) memory
+
+-- or all was written
+pub by_finished : (P : Status → Type 0) → P Status.Done → P Status.WriteFault → P Status.Memory → (status : Status)
+    → IsFinished status → P status
+by_finished P done write memory status (inl is) = subst P (sym is) done
+by_finished P done write memory status (inr un) = by_unwritten P write memory status un
 
 -- ---- a fault as what a call answered
 

@@ -46,12 +46,12 @@ IsAnswerOf most J c one two (CutDone.Refused why) = (format : Format) × IsOfFor
 
 -- why a journal wasn't written anew: a call of a disk failed, or a row has no room in a log of the generation behind that of
 -- these two disks, or memory ran out
-abbrev pub IsUnwritten : ℕ → List Row → List ℕ → List ℕ → StoreFault → Type 0
-IsUnwritten most K one two StoreFault.Disk = ⊤
-IsUnwritten most K one two (StoreFault.Full e) = (format : Format) × IsOfFormat format one two
+abbrev pub EndsRewriting : ℕ → List Row → List ℕ → List ℕ → StoreFault → Type 0
+EndsRewriting most K one two StoreFault.Disk = ⊤
+EndsRewriting most K one two (StoreFault.Full e) = (format : Format) × IsOfFormat format one two
     × RewriteHasNoRoom (length (front (Format.Two (generation format + 1)))) most K e
-IsUnwritten most K one two StoreFault.Memory = ⊤
-IsUnwritten most K one two fault = ⊥
+EndsRewriting most K one two StoreFault.Memory = ⊤
+EndsRewriting most K one two fault = ⊥
 
 -- the journal that the disks have then
 abbrev pub journal_left : List Row → ℕ → CutDone → List Row
@@ -66,5 +66,5 @@ CutCame most J c one two (Ok done) = IsAnswerOf most J c one.content two.content
     × ((journal_left J c done ≡ J)
     ⊎ PairHasRoom most (journal_left J c done) one.content two.content)
 CutCame most J c one two (Err fault) = MayCut J c
-    × IsUnwritten most (cut J c) one.content two.content fault
+    × EndsRewriting most (cut J c) one.content two.content fault
     × (fault ≢ StoreFault.Disk → StandsFor J one two)

@@ -1,5 +1,5 @@
 -- How commands end: why, what the disks were, and what was written (own).
-use Rattle.std.specs.Prelude.{◌≡◌, ◌≢◌, ◌⊎◌, ⊤, ℕ, List, ◌++◌, IsTrue}
+use Rattle.std.specs.Prelude.{◌≡◌, ◌≢◌, ◌⊎◌, ⊤, ℕ, List, ◌++◌, Result, Ok, Err, IsTrue}
 use Rattle.at_authority.specs.Panels.{IsSpent}
 use Rattle.at_cid.specs.Counts.{Rose}
 use Rattle.relay_io.specs.Streams.{AddsFront}
@@ -77,6 +77,21 @@ pub record ToldBut (hidden unread : Type 0) (status : Status) (old new : Place) 
   pub feed : status ≢ Status.Feed → new.failed.feed ≡ old.failed.feed
   pub door : new.failed.door ≡ old.failed.door
   pub wire : new.failed.wire ≡ old.failed.wire
+
+-- ---- how a part ends
+
+-- in order, where it has an answer
+abbrev pub status_in : {A : Type 0} → Result A Status → Status
+status_in (Ok done) = Status.Done
+status_in (Err status) = status
+
+-- what is to be written isn't: a call of the output failed, or memory ran out
+abbrev pub IsUnwritten : Status → Type 0
+IsUnwritten status = (status ≡ Status.WriteFault) ⊎ (status ≡ Status.Memory)
+
+-- or all was written
+abbrev pub IsFinished : Status → Type 0
+IsFinished status = (status ≡ Status.Done) ⊎ IsUnwritten status
 
 -- ---- what was written
 

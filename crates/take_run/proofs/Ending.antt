@@ -23,10 +23,11 @@ use Rattle.store_take.proofs.Asks.{nothing_here, nothing_in_vain}
 use Rattle.relay_store.proofs.Images.{kept_log}
 use Rattle.store_take.proofs.Linework.{lines_report}
 use Rattle.tape.specs.declared.fault.TapeFault.{TapeFault}
-use Rattle.run_base.specs.Ends.{ToldBut, Writes}
+use Rattle.run_base.specs.Ends.{IsFinished, ToldBut, Writes}
 use Rattle.run_base.specs.Place.{Faults, Tells, at_place}
 use Rattle.run_base.specs.declared.status.Status.{Status}
-use Rattle.take_run.specs.Ends.{IsFinished, IsStop, IsUnread, status_of_tape}
+use Rattle.run_base.proofs.Ended.{by_finished}
+use Rattle.take_run.specs.Ends.{IsStop, IsUnread, status_of_tape}
 use Rattle.take_run.specs.Going.{Going, NothingFailed, Point, Ran, Stopped, live}
 use Rattle.take_run.specs.Lines.{lines_of}
 use Rattle.take_run.specs.Taken.{StepsTaken, all_read}
@@ -51,10 +52,7 @@ IsQuiet Status.Memory = ⊤
 IsQuiet status = ⊥
 
 pub finish_quiet : (status : Status) → IsFinished status → IsQuiet status
-finish_quiet Status.Done is = tt
-finish_quiet Status.WriteFault is = tt
-finish_quiet Status.Memory is = tt
-finish_quiet status is = absurd is
+finish_quiet status is = by_finished (λ s. IsQuiet s) tt tt tt status is
 
 pub tape_quiet : (fault : TapeFault) → IsQuiet (status_of_tape fault)
 tape_quiet (TapeFault.Torn p) = tt

@@ -37,12 +37,13 @@ use Rattle.store_take.proofs.Asks.{all_joined, nothing_here, nothing_in_vain}
 use Rattle.relay_store.proofs.Images.{kept_log}
 use Rattle.relay_store.proofs.OnDisk.{ends_within, full_behind}
 use Rattle.store_take.proofs.Runs.{sent_joined}
-use Rattle.run_base.specs.Ends.{ToldBut, Writes}
+use Rattle.run_base.specs.Ends.{IsUnwritten, ToldBut, Writes}
 use Rattle.run_base.specs.Place.{Faults, Place, Tells, at_place}
 use Rattle.run_base.specs.Statuses.{status_of_fault}
 use Rattle.run_base.specs.declared.status.Status.{Status}
+use Rattle.run_base.proofs.Ended.{by_unwritten}
 use Rattle.take_run.specs.Crashes.{Keeping, Leaves}
-use Rattle.take_run.specs.Ends.{IsStop, IsUnwritten, MayLeave, StopsBefore, StopsShort}
+use Rattle.take_run.specs.Ends.{IsStop, MayLeave, StopsBefore, StopsShort}
 use Rattle.take_run.specs.Going.{Going, IsReady, Point, Stopped, live}
 use Rattle.take_run.specs.Lines.{lines_of}
 use Rattle.take_run.specs.NextMessage.{NextEnds}
@@ -139,39 +140,34 @@ fault_writes_lines StoreFault.Clock lines old now is = is
 
 -- or they weren't
 unwritten_lines : (status : Status) (lines old now : List ℕ) → IsUnwritten status → Writes status [] lines old now → Writes status lines [] old now
-unwritten_lines Status.WriteFault lines old now is wrote = subst (AddsFront old now) (sym (append-nil lines)) wrote
-unwritten_lines Status.Memory lines old now is wrote = subst (AddsFront old now) (sym (append-nil lines)) wrote
-unwritten_lines status lines old now is wrote = absurd is
+unwritten_lines status lines old now = by_unwritten (λ s. Writes s [] lines old now → Writes s lines [] old now) longer longer status
+  where
+    longer : AddsFront old now lines → AddsFront old now (lines ++ [])
+    longer wrote = subst (AddsFront old now) (sym (append-nil lines)) wrote
 
 unwritten_short : (tells : Bool) (status : Status) (steps under : List Step) (behind : List Message) (old now : List ℕ) → IsUnwritten status → steps ≢ [] → (IsTrue tells → Writes status [] (lines_of steps) old now) → (status ≡ Status.Memory → IsTrue tells → now ≡ old)
     → StopsShort tells status steps under behind old now
-unwritten_short tells Status.WriteFault steps under behind old now is some wrote nothing = wrote
-unwritten_short tells Status.Memory steps under behind old now is some wrote nothing = λ told. ([], steps, refl, some, nothing refl told ∙ sym (append-nil old))
-unwritten_short tells status steps under behind old now is some wrote nothing = absurd is
+unwritten_short tells status steps under behind old now is some =
+    by_unwritten (λ s. (IsTrue tells → Writes s [] (lines_of steps) old now) → (s ≡ Status.Memory → IsTrue tells → now ≡ old) → StopsShort tells s steps under behind old now)
+    (λ wrote nothing. wrote) (λ wrote nothing told. ([], steps, refl, some, nothing refl told ∙ sym (append-nil old))) status is
 
 unwritten_before : (status : Status) (short : Type 0) (under extra : List Step) (behind : List Message) → short → StopsBefore status short under extra behind
 unwritten_before Status.WriteFault short under extra behind is = is
 unwritten_before status short under extra behind is = inl is
 
 unwritten_leaves : (status : Status) → IsUnwritten status → MayLeave status
-unwritten_leaves Status.WriteFault is = tt
-unwritten_leaves Status.Memory is = tt
-unwritten_leaves status is = absurd is
+unwritten_leaves status is = by_unwritten (λ s. MayLeave s) tt tt status is
 
 unwritten_good : (status : Status) (place : ℕ) → IsUnwritten status → status ≢ Status.BadLog place
-unwritten_good Status.WriteFault place is at = cc
-unwritten_good Status.Memory place is at = cc
-unwritten_good status place is at = absurd is
+unwritten_good status place is = by_unwritten (λ s. s ≢ Status.BadLog place) (λ at. cc) (λ at. cc) status is
 
 unwritten_next : (t : Tells) (K : List Row) (behind : List Message) (old new : Around) (status : Status) → IsUnwritten status → NextEnds t K behind old new status
-unwritten_next t K behind old new Status.WriteFault is = none_ends t K behind old new Status.WriteFault (λ at. cc) (λ at. cc)
-unwritten_next t K behind old new Status.Memory is = none_ends t K behind old new Status.Memory (λ at. cc) (λ at. cc)
-unwritten_next t K behind old new status is = absurd is
+unwritten_next t K behind old new status is =
+    by_unwritten (λ s. NextEnds t K behind old new s) (none_ends t K behind old new Status.WriteFault (λ at. cc) (λ at. cc))
+    (none_ends t K behind old new Status.Memory (λ at. cc) (λ at. cc)) status is
 
 unwritten_full : (status : Status) (e : ℕ) → IsUnwritten status → status ≢ Status.Full e
-unwritten_full Status.WriteFault e is at = cc
-unwritten_full Status.Memory e is at = cc
-unwritten_full status e is at = absurd is
+unwritten_full status e is = by_unwritten (λ s. s ≢ Status.Full e) (λ at. cc) (λ at. cc) status is
 
 -- a fault leaves something over
 fault_before : (fault : StoreFault) (short : Type 0) (under extra : List Step) (behind : List Message) → (under ≢ []) ⊎ ((extra ≢ []) ⊎ (behind ≢ [])) → StopsBefore (status_of_fault fault) short under extra behind

@@ -7,12 +7,12 @@ use Rattle.relay_step.specs.Causes.{SpendsNone}
 use Rattle.relay_store.specs.Opening.{IsOfReading}
 use Rattle.relay_store.specs.declared.fault.StoreFault.{StoreFault}
 use Rattle.tape.specs.declared.fault.TapeFault.{TapeFault}
-use Rattle.run_base.specs.Ends.{Caused, ToldBut}
+use Rattle.run_base.specs.Ends.{Caused, IsFinished, IsUnwritten, ToldBut}
 use Rattle.run_base.specs.Place.{Faults, Place, with_feed, with_input}
 use Rattle.run_base.specs.Statuses.{status_of_fault}
 use Rattle.run_base.specs.declared.status.Status.{Status}
-use Rattle.run_base.proofs.Ended.{SameBeside, fault_caused, other_status}
-use Rattle.take_run.specs.Ends.{FaultsTold, IsFinished, IsOfSource, IsStop, IsUnread, IsUnwritten, MayHideAsked, MayHideInput, MayEndFollowing, MayEndIngesting, status_of_tape}
+use Rattle.run_base.proofs.Ended.{SameBeside, by_finished, by_unwritten, fault_caused, other_status}
+use Rattle.take_run.specs.Ends.{FaultsTold, IsOfSource, IsStop, IsUnread, MayHideAsked, MayHideInput, MayEndFollowing, MayEndIngesting, status_of_tape}
 use Rattle.take_run.specs.Going.{NothingFailed}
 use Rattle.take_run.specs.Groups.{ReadFailed}
 use Rattle.take_run.specs.declared.group.Rest.{Rest}
@@ -33,9 +33,7 @@ fault_stops fault status is = subst IsStop (sym is) (at fault)
     at StoreFault.Clock = tt
 
 pub unwritten_stops : (status : Status) → IsUnwritten status → IsStop status
-unwritten_stops Status.WriteFault is = tt
-unwritten_stops Status.Memory is = tt
-unwritten_stops status is = absurd is
+unwritten_stops status is = by_unwritten (λ s. IsStop s) tt tt status is
 
 pub stop_not_source : (status : Status) → IsStop status → IsOfSource status → ⊥
 stop_not_source Status.Done stop source = stop
@@ -54,10 +52,7 @@ stop_ingests Status.TooLong stop = tt
 stop_ingests status stop = stop
 
 pub finish_ingests : (status : Status) → IsFinished status → MayEndIngesting status
-finish_ingests Status.Done is = tt
-finish_ingests Status.WriteFault is = tt
-finish_ingests Status.Memory is = tt
-finish_ingests status is = absurd is
+finish_ingests status is = by_finished (λ s. MayEndIngesting s) tt tt tt status is
 
 pub tape_ingests : (fault : TapeFault) → MayEndIngesting (status_of_tape fault)
 tape_ingests (TapeFault.Torn p) = tt
@@ -74,10 +69,7 @@ stop_follows Status.Feed stop = tt
 stop_follows status stop = stop
 
 pub finish_follows : (status : Status) → IsFinished status → MayEndFollowing status
-finish_follows Status.Done is = tt
-finish_follows Status.WriteFault is = tt
-finish_follows Status.Memory is = tt
-finish_follows status is = absurd is
+finish_follows status is = by_finished (λ s. MayEndFollowing s) tt tt tt status is
 
 pub unread_follows : (status : Status) → IsUnread status → MayEndFollowing status
 unread_follows Status.Feed is = tt
@@ -246,10 +238,8 @@ pub record OnlyWrote (p q : Place) : Type 0 where
   wire : q.failed.wire ≡ p.failed.wire
 
 finish_caused : (status : Status) (p q : Place) → IsFinished status → (status ≡ Status.WriteFault → Rose p.failed.output q.failed.output) → Caused status p q
-finish_caused Status.Done p q is rose = tt
-finish_caused Status.WriteFault p q is rose = rose refl
-finish_caused Status.Memory p q is rose = tt
-finish_caused status p q is rose = absurd is
+finish_caused status p q is =
+    by_finished (λ s. (s ≡ Status.WriteFault → Rose p.failed.output q.failed.output) → Caused s p q) (λ rose. tt) (λ rose. rose refl) (λ rose. tt) status is
 
 pub wrote_told : (X Y : Type 0) (status : Status) (p q : Place) → OnlyWrote p q → Counted (status ≡ Status.WriteFault) p.failed.output q.failed.output → ToldBut X Y status p q
 wrote_told X Y status p q only output = record {
@@ -268,14 +258,10 @@ pub finish_faults : (Y : Type 0) (status : Status) (p q : Place) → IsFinished 
 finish_faults Y status p q is only output = record { caused = finish_caused status p q is output.rose; told = wrote_told _ Y status p q only output }
 
 pub unwritten_finishes : (status : Status) → IsUnwritten status → IsFinished status
-unwritten_finishes Status.WriteFault is = tt
-unwritten_finishes Status.Memory is = tt
-unwritten_finishes status is = absurd is
+unwritten_finishes status is = inr is
 
 unwritten_hides : (status : Status) → IsUnwritten status → MayHideAsked status
-unwritten_hides Status.WriteFault is = tt
-unwritten_hides Status.Memory is = tt
-unwritten_hides status is = absurd is
+unwritten_hides status is = by_unwritten (λ s. MayHideAsked s) tt tt status is
 
 abbrev pub failed_as : {A : Type 0} → Status → Result A Status
 failed_as status = Err status

@@ -11,10 +11,11 @@ use Rattle.store_take.specs.declared.message.Message.{Message}
 use Rattle.tape.specs.Reading.{coming, held}
 use Rattle.tape.specs.declared.fault.TapeFault.{TapeFault}
 use Rattle.tape.specs.declared.tape.Tape.{Tape}
-use Rattle.run_base.specs.Ends.{ToldBut, Writes}
+use Rattle.run_base.specs.Ends.{IsFinished, ToldBut, Writes}
 use Rattle.run_base.specs.Place.{Faults, Tells}
 use Rattle.run_base.specs.declared.status.Status.{Status}
-use Rattle.take_run.specs.Ends.{IsFinished, IsStop, status_of_tape}
+use Rattle.run_base.proofs.Ended.{by_finished}
+use Rattle.take_run.specs.Ends.{IsStop, status_of_tape}
 use Rattle.take_run.specs.Going.{Going, IsNew, NothingFailed, Point, Stopped, TapeTaken, live}
 use Rattle.take_run.specs.Groups.{AreRead, FollowsOn, IsGroup}
 use Rattle.take_run.specs.Ingested.{input_at}
@@ -38,10 +39,8 @@ stop_ends limit size part after Status.TooLong stop = absurd stop
 stop_ends limit size part after status stop = tt
 
 finished_ends : (limit size : ℕ) (part after : List ℕ) (status : Status) → IsFinished status → part ≡ [] → after ≡ [] → size < limit → EndsTape limit size part after status
-finished_ends limit size part after Status.Done is none ended short = (none, ended, short)
-finished_ends limit size part after Status.WriteFault is none ended short = tt
-finished_ends limit size part after Status.Memory is none ended short = tt
-finished_ends limit size part after status is none ended short = absurd is
+finished_ends limit size part after status is none ended short =
+    by_finished (λ s. EndsTape limit size part after s) (none, ended, short) tt tt status is
 
 fault_ends : (limit size : ℕ) (tape : Tape) (after : List ℕ) (fault : TapeFault) → tape.place ≡ size → tape.most ≡ limit → FollowsOn tape after (Rest.Fault fault) → EndsTape limit size (held tape) after (status_of_tape fault)
 fault_ends limit size tape after (TapeFault.Torn place) here most h = (h.0, h.1 ∙ here)

@@ -1,5 +1,5 @@
 -- How taking messages ends, and what each end leaves (own).
-use Rattle.std.specs.Prelude.{◌≡◌, ◌≢◌, ◌⊎◌, ⊤, Bool, List, [], ◌++◌, ℕ, Result, Ok, Err, IsTrue}
+use Rattle.std.specs.Prelude.{◌≡◌, ◌≢◌, ◌⊎◌, ⊤, Bool, List, [], ◌++◌, ℕ, IsTrue}
 use Rattle.relay_io.specs.Streams.{AddsFront}
 use Rattle.relay_step.specs.Steps.{Step, rows}
 use Rattle.store_take.specs.declared.message.Message.{Message}
@@ -42,27 +42,11 @@ IsOfSource Status.TooLong = ⊤
 IsOfSource Status.Feed = ⊤
 IsOfSource status = ⊥
 
--- lines couldn't be written, or memory ran out for them
-abbrev pub IsUnwritten : Status → Type 0
-IsUnwritten Status.WriteFault = ⊤
-IsUnwritten Status.Memory = ⊤
-IsUnwritten status = ⊥
-
--- or the last line was written
-abbrev pub IsFinished : Status → Type 0
-IsFinished Status.Done = ⊤
-IsFinished status = IsUnwritten status
-
 -- the stream gave no answer, or memory ran out
 abbrev pub IsUnread : Status → Type 0
 IsUnread Status.Feed = ⊤
 IsUnread Status.Memory = ⊤
 IsUnread status = ⊥
-
--- how a part ended: in order, where it has an answer
-abbrev pub status_in : {A : Type 0} → Result A Status → Status
-status_in (Ok done) = Status.Done
-status_in (Err status) = status
 
 -- of a tape, whatever the disks
 abbrev pub MayEndIngesting : Status → Type 0

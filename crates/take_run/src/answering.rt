@@ -4,8 +4,7 @@ ghost use Rattle.std.specs.Prelude.{◌≡◌, ◌≤◌, ◌<◌, ◌+◌, ◌^
 ghost use Rattle.relay_core.specs.Report.{over_line};
 ghost use Rattle.store_take.specs.Lines.{end_line_of};
 ghost use Rattle.at_cid.specs.Counts.{Counted};
-ghost use Rattle.run_base.specs.Ends.{Writes};
-ghost use Rattle.take_run.specs.Ends.{IsFinished, IsUnwritten, status_in};
+ghost use Rattle.run_base.specs.Ends.{IsFinished, IsUnwritten, Writes, status_in};
 ghost use Rattle.take_run.specs.Said.{IsNoted, answered, text_of};
 
 use crate::tally::Tally;
