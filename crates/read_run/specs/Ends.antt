@@ -1,5 +1,6 @@
 -- How commands end that only read a journal (own).
-use Rattle.std.specs.Prelude.{◌≡◌, ◌≢◌, ◌⊎◌, ⊤, ℕ, Option, Some, Result, Ok, Err, IsTrue}
+use Rattle.std.specs.Prelude.{◌≡◌, ◌≢◌, ◌≤◌, ◌⊎◌, ⊤, ℕ, Option, Some, Result, Ok, Err, IsTrue}
+use Rattle.at_cid.specs.Counts.{Counted}
 use Rattle.event_window.specs.declared.fault.EventsFault.{EventsFault}
 use Rattle.backfill.specs.declared.replay_fault.ReplayFault.{ReplayFault}
 use Rattle.backfill.specs.declared.serve_fault.ServeFault.{ServeFault}
@@ -47,6 +48,12 @@ pub record ReadEnded (hidden : Type 0) (t : Tells) (old new : Place) (status : S
     pub told : (hidden → ⊥) → Told status old new
     pub disks : status ≢ Status.Disk
         → (new.failed.one ≡ old.failed.one) × (new.failed.two ≡ old.failed.two)
+
+-- A count rose where the call failed for its part, and else stands; and that of the failures within,
+-- of sessions at a door or of sendings over a wire, which end nothing, never falls.
+pub record CountedWithin (failed : Type 0) (old within new within_now : ℕ) : Type 0 where
+  pub own : Counted failed old new
+  pub kept : within ≤ within_now
 
 -- ---- how a part ends
 

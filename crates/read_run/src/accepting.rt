@@ -3,9 +3,8 @@
 ghost use Rattle.std.specs.Prelude.{◌≡◌, ◌≤◌, ◌⊎◌, ◌++◌, List, Err, false, IsTrue, IfOk, IfErr, IfSome, OnOk};
 ghost use Rattle.event_window.specs.Held.{Held};
 ghost use Rattle.backfill.specs.Target.{cursor_in};
-ghost use Rattle.at_cid.specs.Counts.{Counted};
 ghost use Rattle.read_run.specs.AtDoor.{GuestAccepted, SessionServed, at_door};
-ghost use Rattle.read_run.specs.Ends.{IsUnmet, IsUnread, session_after as after};
+ghost use Rattle.read_run.specs.Ends.{CountedWithin, IsUnmet, IsUnread, session_after as after};
 ghost use Rattle.run_base.specs.Ends.{status_in};
 ghost use Rattle.read_run.specs.Events.{WereRead};
 ghost use Rattle.read_run.specs.Guests.{IsSessionCount};
@@ -108,8 +107,9 @@ pub(crate) fn accept<E: Events, G: Door>(
     ensures few { IfErr result IsUnmet }
     ensures read { WereRead E.tells E.holds E.faults E.damage events.old events.new
         (status_in result) }
-    ensures door { Counted (result ≡ Err Status.Door) (G.faults door.old) (G.faults door.new) }
-    ensures sessions { G.session_faults door.old ≤ G.session_faults door.new }
+    ensures door { CountedWithin (result ≡ Err Status.Door)
+        (G.faults door.old) (G.session_faults door.old)
+        (G.faults door.new) (G.session_faults door.new) }
     ensures later { E.later events.old events.new }
 {
     let guest = match door.next() {

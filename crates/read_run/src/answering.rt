@@ -1,12 +1,12 @@
 //! Requests that are answered one after another.
 
-ghost use Rattle.std.specs.Prelude.{◌≡◌, ◌≤◌, ◌<◌, ◌^◌, List, Err, IfErr, IsTrue};
+ghost use Rattle.std.specs.Prelude.{◌≡◌, ◌<◌, ◌^◌, List, Err, IfErr, IsTrue};
 ghost use Rattle.relay_row.specs.declared.row.Row.{Row as TheRow};
 ghost use Rattle.relay_core.specs.Entries.{Holds};
 ghost use Rattle.at_cid.specs.Counts.{Counted};
 ghost use Rattle.run_base.specs.Ends.{Writes};
 ghost use Rattle.read_run.specs.AtWire.{at_wire};
-ghost use Rattle.read_run.specs.Ends.{IsOfDisks, IsUnasked, MayEndQuerying};
+ghost use Rattle.read_run.specs.Ends.{CountedWithin, IsOfDisks, IsUnasked, MayEndQuerying};
 ghost use Rattle.read_run.specs.Queried.{Comes, Queried, queries_end, query_lines};
 
 use crate::request::end_requests;
@@ -50,8 +50,9 @@ pub(crate) fn answer_all<W: Wire, O: Sink>(
         (O.written out.old) (O.written out.new)) }
     ensures may { MayEndQuerying result }
     ensures not_disks { IsOfDisks result → ⊥ }
-    ensures wire { Counted (result ≡ Status.Wire) (W.faults wire.old) (W.faults wire.new) }
-    ensures sends { W.send_faults wire.old ≤ W.send_faults wire.new }
+    ensures wire { CountedWithin (result ≡ Status.Wire)
+        (W.faults wire.old) (W.send_faults wire.old)
+        (W.faults wire.new) (W.send_faults wire.new) }
     ensures output { Counted (result ≡ Status.WriteFault) (O.faults out.old) (O.faults out.new) }
 {
     let mut room = Octets::new(alloc);

@@ -1,6 +1,6 @@
 //! Guests who are served, one after another.
 
-ghost use Rattle.std.specs.Prelude.{◌≡◌, ◌≤◌, ◌<◌, ◌^◌, List, IsTrue};
+ghost use Rattle.std.specs.Prelude.{◌≡◌, ◌<◌, ◌^◌, List, IsTrue};
 ghost use Rattle.event_window.specs.Held.{Held};
 ghost use Rattle.relay_row.specs.declared.row.Row.{Row as TheRow};
 ghost use Rattle.relay_store.specs.Shown.{held_by};
@@ -8,7 +8,7 @@ ghost use Rattle.relay_store.specs.Store.{IsKept, Keeps, seen_in};
 ghost use Rattle.at_cid.specs.Counts.{Counted};
 ghost use Rattle.run_base.specs.Ends.{Writes};
 ghost use Rattle.read_run.specs.AtDoor.{at_door};
-ghost use Rattle.read_run.specs.Ends.{MayEndServing};
+ghost use Rattle.read_run.specs.Ends.{CountedWithin, MayEndServing};
 ghost use Rattle.read_run.specs.Events.{WasRead, WereRead};
 ghost use Rattle.read_run.specs.Guests.{GuestsServed, session_lines, sessions_end};
 
@@ -40,8 +40,9 @@ fn serve_guests<E: Events, G: Door, O: Sink>(
         (O.written out.old) (O.written out.new)) }
     ensures may { MayEndServing result }
     ensures read { WereRead E.tells E.holds E.faults E.damage events.old events.new result }
-    ensures door { Counted (result ≡ Status.Door) (G.faults door.old) (G.faults door.new) }
-    ensures sessions { G.session_faults door.old ≤ G.session_faults door.new }
+    ensures door { CountedWithin (result ≡ Status.Door)
+        (G.faults door.old) (G.session_faults door.old)
+        (G.faults door.new) (G.session_faults door.new) }
     ensures output { Counted (result ≡ Status.WriteFault) (O.faults out.old) (O.faults out.new) }
     ensures later { E.later events.old events.new }
 {
@@ -78,8 +79,9 @@ pub(crate) fn serve_from<D: Disk, G: Door, O: Sink>(
         (O.written out.old) (O.written out.new)) }
     ensures may { MayEndServing result }
     ensures read { WasRead D.tells (D.view disk.old) (D.view disk.new) result }
-    ensures door { Counted (result ≡ Status.Door) (G.faults door.old) (G.faults door.new) }
-    ensures sessions { G.session_faults door.old ≤ G.session_faults door.new }
+    ensures door { CountedWithin (result ≡ Status.Door)
+        (G.faults door.old) (G.session_faults door.old)
+        (G.faults door.new) (G.session_faults door.new) }
     ensures output { Counted (result ≡ Status.WriteFault) (O.faults out.old) (O.faults out.new) }
 {
     let mut events = events(store, alloc, disk);

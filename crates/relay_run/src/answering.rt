@@ -1,7 +1,7 @@
 //! The line of what was answered to an operator.
 
-ghost use Rattle.std.specs.Prelude.{◌≡◌, ◌≤◌, ◌⊎◌, ◌++◌, ◌∷◌, [], IsTrue, IfOk, OnOk, OnErr};
-ghost use Rattle.at_cid.specs.Counts.{Rose, Counted};
+ghost use Rattle.std.specs.Prelude.{◌≡◌, ◌⊎◌, ◌++◌, ◌∷◌, [], IsTrue, IsErr, IfOk, OnOk};
+ghost use Rattle.at_cid.specs.Counts.{Counted};
 ghost use Rattle.relay_io.specs.Streams.{AddsFront};
 ghost use Rattle.report_lines.specs.Lines.{numbered};
 ghost use Rattle.relay_run.specs.Lines.{IsEndOf, done_text};
@@ -22,9 +22,7 @@ pub(crate) fn write_number<O: Sink>(out: &mut O, command: &[u8], number: u64) ->
         → O.written out.new ≡ O.written out.old ++ numbered command.now number) }
     ensures front { IsTrue O.tells → AddsFront (O.written out.old) (O.written out.new)
         (numbered command.now number) }
-    ensures counts { O.faults out.old ≤ O.faults out.new }
-    ensures steady { OnOk result (O.faults out.new ≡ O.faults out.old) }
-    ensures failed { OnErr result (Rose (O.faults out.old) (O.faults out.new)) }
+    ensures counts { Counted (IsErr result) (O.faults out.old) (O.faults out.new) }
 {
     write_all(out, command)?;
     write_all(out, Buffer::new().format(number).as_bytes())
@@ -36,9 +34,7 @@ pub(crate) fn write_last<O: Sink>(out: &mut O, command: &[u8], number: u64) -> R
         → O.written out.new ≡ O.written out.old ++ (numbered command.now number ++ 10 ∷ [])) }
     ensures front { IsTrue O.tells → AddsFront (O.written out.old) (O.written out.new)
         (numbered command.now number ++ 10 ∷ []) }
-    ensures counts { O.faults out.old ≤ O.faults out.new }
-    ensures steady { OnOk result (O.faults out.new ≡ O.faults out.old) }
-    ensures failed { OnErr result (Rose (O.faults out.old) (O.faults out.new)) }
+    ensures counts { Counted (IsErr result) (O.faults out.old) (O.faults out.new) }
 {
     write_number(out, command, number)?;
     write_all(out, b"\n")
@@ -49,9 +45,7 @@ fn write_synced<O: Sink>(out: &mut O, seq: u64, records: u64) -> Result<(), Fail
         → O.written out.new ≡ O.written out.old ++ done_text (Done.Synced seq records)) }
     ensures front { IsTrue O.tells → AddsFront (O.written out.old) (O.written out.new)
         (done_text (Done.Synced seq records)) }
-    ensures counts { O.faults out.old ≤ O.faults out.new }
-    ensures steady { OnOk result (O.faults out.new ≡ O.faults out.old) }
-    ensures failed { OnErr result (Rose (O.faults out.old) (O.faults out.new)) }
+    ensures counts { Counted (IsErr result) (O.faults out.old) (O.faults out.new) }
 {
     write_number(out, b"synced ", seq)?;
     write_last(out, b" records ", records)

@@ -1,7 +1,7 @@
 //! The line of what cutting the journal came to.
 
-ghost use Rattle.std.specs.Prelude.{◌≡◌, ◌≤◌, ◌⊎◌, ◌++◌, ◌∷◌, [], codes, IsTrue, OnOk, OnErr};
-ghost use Rattle.at_cid.specs.Counts.{Rose, Counted};
+ghost use Rattle.std.specs.Prelude.{◌≡◌, ◌⊎◌, ◌++◌, ◌∷◌, [], codes, IsTrue, IsErr, OnOk};
+ghost use Rattle.at_cid.specs.Counts.{Counted};
 ghost use Rattle.relay_io.specs.Streams.{AddsFront};
 ghost use Rattle.relay_run.specs.Lines.{EndsCut, cut_text};
 ghost use Rattle.report_lines.specs.Lines.{numbered};
@@ -19,9 +19,7 @@ fn write_bounds<O: Sink>(out: &mut O, oldest: u64, last: u64) -> Result<(), Fail
         ++ (numbered (codes " oldest ") oldest ++ (numbered (codes " last ") last ++ 10 ∷ []))) }
     ensures front { IsTrue O.tells → AddsFront (O.written out.old) (O.written out.new)
         (numbered (codes " oldest ") oldest ++ (numbered (codes " last ") last ++ 10 ∷ [])) }
-    ensures counts { O.faults out.old ≤ O.faults out.new }
-    ensures steady { OnOk result (O.faults out.new ≡ O.faults out.old) }
-    ensures failed { OnErr result (Rose (O.faults out.old) (O.faults out.new)) }
+    ensures counts { Counted (IsErr result) (O.faults out.old) (O.faults out.new) }
 {
     write_number(out, b" oldest ", oldest)?;
     write_last(out, b" last ", last)
@@ -32,9 +30,7 @@ fn write_cut<O: Sink>(out: &mut O, seq: u64, oldest: u64, last: u64) -> Result<(
         → O.written out.new ≡ O.written out.old ++ cut_text seq (CutDone.Cut oldest last)) }
     ensures front { IsTrue O.tells → AddsFront (O.written out.old) (O.written out.new)
         (cut_text seq (CutDone.Cut oldest last)) }
-    ensures counts { O.faults out.old ≤ O.faults out.new }
-    ensures steady { OnOk result (O.faults out.new ≡ O.faults out.old) }
-    ensures failed { OnErr result (Rose (O.faults out.old) (O.faults out.new)) }
+    ensures counts { Counted (IsErr result) (O.faults out.old) (O.faults out.new) }
 {
     write_number(out, b"cut ", seq)?;
     write_bounds(out, oldest, last)

@@ -37,8 +37,8 @@ guests-preserved g c = record {
       ((rw c.in-Ok-Some.field-0-is at c.in-Ok-Some.ensures.accepted) told held
       (c.guests.invariant.read.same told held holds)) c.in-Ok.ensures.written;
   read = read_again _ _ _ _ _ _ _ _ c.guests.invariant.read c.in-Ok-Some.ensures.read;
-  door = c.in-Ok-Some.ensures.door.steady (λ is. absurd cc) ∙ c.guests.invariant.door;
-  sessions = omega (arith, c.guests.invariant.sessions, c.in-Ok-Some.ensures.sessions);
+  door = c.in-Ok-Some.ensures.door.own.steady (λ is. absurd cc) ∙ c.guests.invariant.door;
+  sessions = omega (arith, c.guests.invariant.sessions, c.in-Ok-Some.ensures.door.kept);
   output = c.in-Ok.ensures.counts.steady (λ is. absurd cc) ∙ c.guests.invariant.output;
   later = g.met.E.Events.later_again _ _ _ c.guests.invariant.later c.in-Ok-Some.ensures.later;
 }

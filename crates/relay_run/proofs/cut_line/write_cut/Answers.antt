@@ -1,6 +1,7 @@
 use Rattle.std.proofs.Common.{[], ◌∷◌, ◌++◌, codes}
 use Rattle.report_lines.specs.Lines.{numbered}
 use Rattle.report_lines.proofs.Writing.{front_of_first, front_of_second}
+use Rattle.relay_run.proofs.Counts.{counted_then}
 use Rattle.relay_run.proofs.cut_line.write_cut.Goals as goal
 
 pub returns-clause-front : goal.returns-clause-front
@@ -10,3 +11,6 @@ returns-clause-front g c = λ told.
 pub returns-in_err-write_number-clause-front : goal.returns-in_err-write_number-clause-front
 returns-in_err-write_number-clause-front g c = λ told.
     front_of_first (g.O.Sink.written c.args.out.now) (g.O.Sink.written c.write_number.new.out) (numbered (codes "cut ") c.args.seq) (numbered (codes " oldest ") c.args.oldest ++ (numbered (codes " last ") c.args.last ++ 10 ∷ [])) (c.write_number.ensures.front told)
+
+pub returns-clause-counts : goal.returns-clause-counts
+returns-clause-counts g c = counted_then _ _ _ _ (c.in_ok-write_number.ensures.counts.steady (λ is. absurd cc)) c.write_bounds.ensures.counts

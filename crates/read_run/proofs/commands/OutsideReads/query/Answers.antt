@@ -82,7 +82,7 @@ returns-clause-ended g c =
       unwritten = c.answer_all.ensures.output.rose;
       output = λ _. c.answer_all.ensures.output.steady;
       door = uncounted_door ⊤ c.answer_all.result 0 c.answer_all.ensures.may;
-      wire = c.answer_all.ensures.wire;
+      wire = c.answer_all.ensures.wire.own;
     })
     (record { unspent = λ name spent. spent; repos = refl; clock = refl; input = refl; feed = refl })
 

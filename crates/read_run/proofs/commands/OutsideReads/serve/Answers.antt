@@ -89,7 +89,7 @@ returns-clause-ended g c =
           _ _ (c.in-Ok.ensures.counts.steady (ok_not c.in-Ok.store StoreFault.Disk));
       unwritten = c.serve_from.ensures.output.rose;
       output = λ _. c.serve_from.ensures.output.steady;
-      door = c.serve_from.ensures.door;
+      door = c.serve_from.ensures.door.own;
       wire = uncounted_wire ⊤ c.serve_from.result 0 c.serve_from.ensures.may;
     })
     (record { unspent = λ name spent. spent; repos = refl; clock = refl; input = refl; feed = refl })
