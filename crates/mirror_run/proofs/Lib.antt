@@ -7,3 +7,4 @@ pub mod Printed
 pub mod Chained
 pub mod HeadsTold
 pub mod Stopping
+pub mod ByReading

@@ -1,61 +1,34 @@
--- How taking a stream stops, and that a stream is taken in one way.
-use Rattle.std.proofs.Common.{◌≡◌, ◌≤◌, ◌<◌, ◌⊎◌, ℕ, ◌+◌, Bool, true, false, List, [], ◌∷◌, ◌++◌, length, Result, Ok, Err, IsTrue, refl, sym, ap, subst, ◌∙◌, inl, inr, arith, append_assoc, length-append}
+-- How taking a stream stops.
+use Rattle.std.proofs.Common.{◌≡◌, ◌≤◌, ℕ, ◌+◌, Bool, true, List, [], ◌∷◌, ◌++◌, length, Result, Ok, Err, IsTrue, refl, sym, ap, subst, ◌∙◌, inl, inr, arith, length-append}
 use Rattle.std.proofs.lemmas.List.{append-nil}
 use Rattle.at_event.specs.Frames.{frame_of}
-use Rattle.backfill.specs.Writing.{with_length}
 use Rattle.at_cid.specs.Lengths.{length_prefixed}
 use Rattle.relay_io.specs.declared.feed.TheConstants.{LONGEST_FEED_MESSAGE}
 use Rattle.mirror.specs.Repository.{Repositories}
 use Rattle.mirror.specs.State.{held_by}
-use Rattle.mirror.specs.Taken.{is_bad, last_behind}
+use Rattle.mirror.specs.Taken.{is_bad}
 use Rattle.mirror.specs.declared.fault.MirrorFault.{MirrorFault}
 use Rattle.mirror.specs.declared.keeping.Mirror.{Mirror}
 use Rattle.at_cid.specs.Counts.{Counted}
 use Rattle.run_base.specs.Ends.{IsFinished, Writes}
 use Rattle.run_base.specs.declared.status.Status.{Status}
-use Rattle.mirror_run.specs.Ends.{MayEndBad, MayEndMirroring, MayEndWhole}
+use Rattle.run_base.proofs.Ended.{by_finished}
+use Rattle.mirror_run.specs.Ends.{MayEndMirroring}
 use Rattle.mirror_run.specs.Lines.{mirror_end_line}
 use Rattle.mirror_run.specs.Mirrored.{AreLines, IsRestLeft, IsMirrorText, Mirrored}
 use Rattle.mirror_run.specs.Printing.{AreKnown, lines_in}
 use Rattle.mirror_run.specs.Reading.{HasNoMessage, IsNext, IsSpent, coming}
-use Rattle.mirror_run.specs.Stream.{AreGood, BeginWith, IsBadBehind, IsBadFrom, last_seq_behind}
+use Rattle.mirror_run.specs.Stream.{IsBadBehind, last_seq_behind}
 use Rattle.mirror_run.specs.Taking.{HasStopped, HasTaken, HasTakenAll, IsEarly, status_of_message, status_of_stream}
 use Rattle.mirror_run.specs.declared.reader.MessageReader.{MessageReader}
 use Rattle.mirror_run.specs.declared.reader.StreamFault.{StreamFault}
-use Rattle.mirror_run.proofs.Chained.{holds_chains}
-use Rattle.mirror_run.proofs.HeadsTold.{tells_heads}
 use Rattle.mirror_run.proofs.Fronts.{length_frame, one_message}
 use Rattle.mirror_run.proofs.Ordered.{dids_ascend, dids_of, dids_told}
 use Rattle.mirror_run.proofs.Printed.{nothing_added}
 
--- behind these messages nothing is left, or what can't be taken
-abbrev pub Stops : ℕ → List (List ℕ) → List ℕ → Type 0
-Stops last messages rest = (rest ≡ []) ⊎ IsBadFrom (last_seq_behind last messages) rest
-
-not_both : (b : Bool) → b ≡ true → b ≡ false → ⊥
-not_both b h k = let e : true ≡ false = sym h ∙ k in absurd cc
-
-some_frame : (m more : List ℕ) → length_prefixed m ++ more ≡ [] → ⊥
+pub some_frame : (m more : List ℕ) → length_prefixed m ++ more ≡ [] → ⊥
 some_frame m more is =
     let none : 4 + length m + length more ≡ 0 = omega (arith, ap length is, length-append (length_prefixed m) more, length_frame m) in absurd (omega (arith, none))
-
-goes_on : (last : ℕ) (m rest more : List ℕ) → length m ≤ LONGEST_FEED_MESSAGE → is_bad last (frame_of m) ≡ false → rest ≡ length_prefixed m ++ more → Stops last [] rest → ⊥
-goes_on last m rest more short good is (inl none) = some_frame m more (sym is ∙ none)
-goes_on last m rest more short good is (inr bad) = not_both (is_bad last (frame_of m)) (bad.none m more is short) good
-
-pub one_way : (last : ℕ) (ms ns : List (List ℕ)) (rest more : List ℕ) → AreGood last ms → AreGood last ns → with_length ms ++ rest ≡ with_length ns ++ more → Stops last ms rest → Stops last ns more → (ms ≡ ns) × (rest ≡ more)
-one_way last [] [] rest more g h is s t = (refl, is)
-one_way last [] (n ∷ ns) rest more g h is s t =
-    absurd (goes_on last n rest (with_length ns ++ more) h.0 h.1 (is ∙ append_assoc (length_prefixed n) (with_length ns) more) s)
-one_way last (m ∷ ms) [] rest more g h is s t =
-    absurd (goes_on last m more (with_length ms ++ rest) g.0 g.1 (sym is ∙ append_assoc (length_prefixed m) (with_length ms) rest) t)
-one_way last (m ∷ ms) (n ∷ ns) rest more g h is s t =
-    let first = one_message m n (with_length ms ++ rest) (with_length ns ++ more) g.0 h.0
-    (sym (append_assoc (length_prefixed m) (with_length ms) rest) ∙ is ∙ append_assoc (length_prefixed n) (with_length ns) more) in
-    let others = one_way (last_behind last (frame_of m)) ms ns rest more g.2
-    (subst (λ (x : List ℕ). AreGood (last_behind last (frame_of x)) ns) (sym first.0) h.2) first.1 s
-    (subst (λ (x : List ℕ). Stops (last_behind last (frame_of x)) ns more) (sym first.0) t) in
-    ((λ i. first.0 i ∷ others.0 i), others.1)
 
 -- how it stops behind what was taken
 module _ (input_tells tell : Bool) (repositories : Repositories) (limit : ℕ) (input left : List ℕ) (place : ℕ) (mirror : Mirror) (events : ℕ) (t : HasTaken input_tells tell repositories input left place mirror events) where
@@ -145,78 +118,22 @@ module _ (input_tells tell : Bool) (repositories : Repositories) (input left : L
     whole = ap (λ n. lines_in mirror (dids_of t.messages) ++ mirror_end_line n) t.count;
   }
 
--- ---- what a short input of which nothing is hidden comes to
-
-abbrev IsEnd : Status → Type 0
-IsEnd status = IsFinished status ⊎ IsEarly status
-
-may : (status : Status) → IsEnd status → MayEndMirroring status
-may status (inl (inl is)) = subst MayEndMirroring (sym is) tt
-may status (inl (inr (inl is))) = subst MayEndMirroring (sym is) tt
-may status (inl (inr (inr is))) = subst MayEndMirroring (sym is) tt
-may status (inr (inl (place, is))) = subst MayEndMirroring (sym is) tt
-may status (inr (inr (inl is))) = subst MayEndMirroring (sym is) tt
-may status (inr (inr (inr (inl is)))) = subst MayEndMirroring (sym is) tt
-may status (inr (inr (inr (inr (inl is))))) = subst MayEndMirroring (sym is) tt
-may status (inr (inr (inr (inr (inr is))))) = subst MayEndMirroring (sym is) tt
+-- ---- how it may end
 
 pub may_late : (status : Status) → IsFinished status → MayEndMirroring status
-may_late status late = may status (inl late)
+may_late status is = by_finished (λ s. MayEndMirroring s) tt tt tt status is
 
 pub may_early : (status : Status) → IsEarly status → MayEndMirroring status
-may_early status early = may status (inr early)
-
-module _ (limit : ℕ) (input : List ℕ) (messages ms : List (List ℕ)) (rest left : List ℕ) (begin : BeginWith input messages rest) (good : AreGood 0 ms) (split : input ≡ with_length ms ++ left) (short : length input < limit) where
-  same : Stops 0 ms left → Stops 0 messages rest → (ms ≡ messages) × (left ≡ rest)
-  same s t = one_way 0 ms messages left rest good begin.good (sym split ∙ begin.split) s t
-
-  not_spent : IsRestLeft limit Status.TooLong ms left → ⊥
-  not_spent h =
-      absurd (omega (arith, short, ap length split, length-append (with_length ms) left, ap length h.2, length-append h.0 h.1, h.4))
-
-  module _ (status : Status) (is_left : IsRestLeft limit status ms left) where
-    left_at : (s : Status) → status ≡ s → IsRestLeft limit s ms left
-    left_at s is = subst (λ (x : Status). IsRestLeft limit x ms left) is is_left
-
-    as_whole : (s : Status) → status ≡ s → MayEndWhole s → MayEndWhole status
-    as_whole s is h = subst MayEndWhole (sym is) h
-
-    pub ends_whole : rest ≡ [] → IsEnd status → MayEndWhole status
-    ends_whole whole (inl (inl is)) = as_whole Status.Done is tt
-    ends_whole whole (inl (inr (inl is))) = as_whole Status.WriteFault is tt
-    ends_whole whole (inl (inr (inr is))) = as_whole Status.Memory is tt
-    ends_whole whole (inr (inl (place, is))) =
-        let at = left_at (Status.BadStream place) is in absurd (at.1.some ((same (inr at.1) (inl whole)).1 ∙ whole))
-    ends_whole whole (inr (inr (inl is))) = absurd (not_spent (left_at Status.TooLong is))
-    ends_whole whole (inr (inr (inr (inl is)))) = as_whole Status.ReadFault is tt
-    ends_whole whole (inr (inr (inr (inr (inl is))))) = as_whole Status.Repos is tt
-    ends_whole whole (inr (inr (inr (inr (inr is))))) = as_whole Status.Memory is tt
-
-    as_bad : (s : Status) → status ≡ s → MayEndBad (length (with_length messages)) s → MayEndBad (length (with_length messages)) status
-    as_bad s is h = subst (λ (x : Status). MayEndBad (length (with_length messages)) x) (sym is) h
-
-    -- nothing is left
-    not_all : IsBadBehind messages rest → left ≡ [] → ⊥
-    not_all bad none = bad.some (sym (same (inl none) (inr bad)).1 ∙ none)
-
-    pub ends_bad : IsBadBehind messages rest → IsEnd status → MayEndBad (length (with_length messages)) status
-    ends_bad bad (inl (inl is)) = absurd (not_all bad (left_at Status.Done is))
-    ends_bad bad (inl (inr (inl is))) = absurd (not_all bad (left_at Status.WriteFault is))
-    ends_bad bad (inl (inr (inr is))) = as_bad Status.Memory is tt
-    ends_bad bad (inr (inl (place, is))) =
-        let at = left_at (Status.BadStream place) is in
-        as_bad (Status.BadStream place) is (at.0 ∙ ap (λ (l : List (List ℕ)). length (with_length l)) (same (inr at.1) (inr bad)).0)
-    ends_bad bad (inr (inr (inl is))) = absurd (not_spent (left_at Status.TooLong is))
-    ends_bad bad (inr (inr (inr (inl is)))) = as_bad Status.ReadFault is tt
-    ends_bad bad (inr (inr (inr (inr (inl is))))) = as_bad Status.Repos is tt
-    ends_bad bad (inr (inr (inr (inr (inr is))))) = as_bad Status.Memory is tt
+may_early status (inl (place, is)) = subst MayEndMirroring (sym is) tt
+may_early status (inr (inl is)) = subst MayEndMirroring (sym is) tt
+may_early status (inr (inr (inl is))) = subst MayEndMirroring (sym is) tt
+may_early status (inr (inr (inr (inl is)))) = subst MayEndMirroring (sym is) tt
+may_early status (inr (inr (inr (inr is)))) = subst MayEndMirroring (sym is) tt
 
 -- ---- together
 
 left_late : (limit : ℕ) (status : Status) (messages : List (List ℕ)) → IsFinished status → IsRestLeft limit status messages []
-left_late limit status messages (inl is) = subst (λ (s : Status). IsRestLeft limit s messages []) (sym is) refl
-left_late limit status messages (inr (inl is)) = subst (λ (s : Status). IsRestLeft limit s messages []) (sym is) refl
-left_late limit status messages (inr (inr is)) = subst (λ (s : Status). IsRestLeft limit s messages []) (sym is) tt
+left_late limit status messages is = by_finished (λ s. IsRestLeft limit s messages []) refl refl tt status is
 
 pub mirrored_all : (input_tells output_tells tell : Bool) (limit : ℕ) (repositories : Repositories) (input old new : List ℕ) (status : Status) (mirror : Mirror) (events : ℕ)
     → HasTakenAll input_tells tell repositories input mirror events → IsFinished status
@@ -234,11 +151,6 @@ mirrored_all input_tells output_tells tell limit repositories input old new stat
       split = t.split;
       left = λ told. left;
       written = λ told. (text, is, wrote told);
-      whole = λ told short all begin. ends_whole limit input all t.messages [] [] begin t.good (t.split told) short status left refl (inl late);
-      bad = λ told short front behind begin bad. ends_bad limit input front t.messages behind [] begin t.good (t.split told) short status left bad (inl late);
-      chains = λ told done. holds_chains repositories input t.messages t.good (t.split told);
-      heads = λ told shown known done.
-          tells_heads tell repositories input old new t.messages text known t.good (t.split told) is (subst (λ (s : Status). Writes s [] text old new) done (wrote shown));
     }
 
 -- where it stopped nothing was written
@@ -248,14 +160,6 @@ unwritten status text old (inr (inl is)) = subst (λ (s : Status). Writes s [] t
 unwritten status text old (inr (inr (inl is))) = subst (λ (s : Status). Writes s [] text old old) (sym is) (sym (append-nil old))
 unwritten status text old (inr (inr (inr (inl is)))) = subst (λ (s : Status). Writes s [] text old old) (sym is) (sym (append-nil old))
 unwritten status text old (inr (inr (inr (inr is)))) = subst (λ (s : Status). Writes s [] text old old) (sym is) (nothing_added old text)
-
--- it didn't stop where all was done
-early_not_done : (status : Status) → IsEarly status → status ≡ Status.Done → ⊥
-early_not_done status (inl (place, is)) done = let no : Status.BadStream place ≡ Status.Done = sym is ∙ done in absurd cc
-early_not_done status (inr (inl is)) done = let no : Status.TooLong ≡ Status.Done = sym is ∙ done in absurd cc
-early_not_done status (inr (inr (inl is))) done = let no : Status.ReadFault ≡ Status.Done = sym is ∙ done in absurd cc
-early_not_done status (inr (inr (inr (inl is)))) done = let no : Status.Repos ≡ Status.Done = sym is ∙ done in absurd cc
-early_not_done status (inr (inr (inr (inr is)))) done = let no : Status.Memory ≡ Status.Done = sym is ∙ done in absurd cc
 
 pub mirrored_front : (input_tells output_tells tell : Bool) (limit : ℕ) (repositories : Repositories) (input old : List ℕ) (status : Status) → HasStopped input_tells tell repositories limit input status → IsEarly status
     → Mirrored input_tells output_tells tell limit repositories input old old status
@@ -269,10 +173,6 @@ mirrored_front input_tells output_tells tell limit repositories input old status
       split = t.split;
       left = s.rest;
       written = λ told. (text, is_text input_tells tell repositories input s.left s.place s.mirror s.events t, unwritten status text old early);
-      whole = λ told short all begin. ends_whole limit input all t.messages [] s.left begin t.good (t.split told) short status (s.rest told) refl (inr early);
-      bad = λ told short front behind begin bad. ends_bad limit input front t.messages behind s.left begin t.good (t.split told) short status (s.rest told) bad (inr early);
-      chains = λ told done. absurd (early_not_done status early done);
-      heads = λ told shown known done. absurd (early_not_done status early done);
     }
 
 -- ---- counts of failures

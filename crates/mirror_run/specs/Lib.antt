@@ -6,5 +6,6 @@ pub mod Ends
 pub mod Chains
 pub mod Heads
 pub mod Mirrored
+pub mod Laws
 pub mod Taking
 pub mod Printing

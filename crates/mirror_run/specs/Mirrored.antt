@@ -1,5 +1,5 @@
 -- What mirroring a stream does (own).
-use Rattle.std.specs.Prelude.{◌≡◌, ◌<◌, ⊤, ℕ, ◌+◌, Bool, List, [], ◌∷◌, ◌++◌, length, IsTrue}
+use Rattle.std.specs.Prelude.{◌≡◌, ⊤, ℕ, ◌+◌, Bool, List, [], ◌∷◌, ◌++◌, length, IsTrue}
 use Rattle.std.specs.declared.cmp.Ordering.TheVariants.{Less}
 use Rattle.std.specs.List.{list_any}
 use Rattle.std.specs.Str.{bytes_eq}
@@ -10,11 +10,8 @@ use Rattle.mirror.specs.Repository.{Repositories}
 use Rattle.mirror.specs.declared.holding.Holding.{Holding}
 use Rattle.run_base.specs.Ends.{Writes}
 use Rattle.run_base.specs.declared.status.Status.{Status}
-use Rattle.mirror_run.specs.Chains.{HoldsChains}
-use Rattle.mirror_run.specs.Ends.{MayEndBad, MayEndWhole}
-use Rattle.mirror_run.specs.Heads.{TellsHeads}
 use Rattle.mirror_run.specs.Lines.{mirror_end_line, mirror_line}
-use Rattle.mirror_run.specs.Stream.{AreGood, BeginWith, EndsInMessage, IsBadBehind, event_count, tell_of}
+use Rattle.mirror_run.specs.Stream.{AreGood, EndsInMessage, IsBadBehind, event_count, tell_of}
 
 -- a name stands before each of these, in the order of bytes
 abbrev pub AllBehind : List ℕ → List (List ℕ) → Type 0
@@ -75,14 +72,3 @@ pub record Mirrored (input_tells output_tells repositories_tell : Bool) (limit :
   pub left : IsTrue input_tells → IsRestLeft limit status messages rest
   pub written : IsTrue output_tells
       → IsMirrorWritten repositories_tell repositories status messages old new
-  -- a short stream: a whole one is taken, unless a call fails or memory runs out
-  pub whole : IsTrue input_tells → length input < limit → (all : List (List ℕ))
-      → BeginWith input all [] → MayEndWhole status
-  -- and of another the place is told from which on it can't be taken
-  pub bad : IsTrue input_tells → length input < limit → (front : List (List ℕ)) (behind : List ℕ)
-      → BeginWith input front behind → IsBadBehind front behind
-      → MayEndBad (length (with_length front)) status
-  pub chains : IsTrue input_tells → status ≡ Status.Done
-      → HoldsChains repositories input messages
-  pub heads : IsTrue input_tells → IsTrue output_tells → IsTrue repositories_tell
-      → status ≡ Status.Done → TellsHeads repositories input old new

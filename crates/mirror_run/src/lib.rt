@@ -3,10 +3,12 @@
 
 mod end;
 mod front;
+mod laws;
 mod line;
 mod mirroring;
 mod printing;
 mod reader;
 mod taking;
 
+pub use laws::{journals_are_mirrored, journals_heads_are_printed, short_streams_are_taken};
 pub use mirroring::mirror;
