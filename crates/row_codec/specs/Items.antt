@@ -1,7 +1,8 @@
 -- The items of a row, one by one (own format).
-use Rattle.std.specs.Prelude.{ℕ, pos, List, [], ◌∷◌, Option, Some, None}
+use Rattle.std.specs.Prelude.{ℕ, List, [], ◌∷◌, Option, Some, None}
 use Rattle.at_cbor.specs.Item.{Item, items_of}
 use Rattle.at_syntax.specs.Tid.{digits_of}
+use Rattle.at_event.specs.Writing.{number_item as number}
 use Rattle.at_event.specs.Refusals.{code_of}
 use Rattle.at_event.specs.declared.head.Head.{Head}
 use Rattle.at_event.specs.declared.refusal.Refusal.{Refusal}
@@ -11,9 +12,6 @@ use Rattle.relay_row.specs.declared.taken.Effect.{Effect}
 use Rattle.relay_row.specs.declared.carried.CarriedRepo.{CarriedRepo}
 use Rattle.relay_row.specs.declared.carried.Carried.{Carried}
 use Rattle.relay_row.specs.declared.row.Row.{Row}
-
-abbrev pub number : ℕ → Item
-number n = Item.int (pos n)
 
 -- the 13 characters of a revision
 abbrev pub rev_text : ℕ → Item
