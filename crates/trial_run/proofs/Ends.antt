@@ -14,19 +14,19 @@ use Rattle.relay_io.specs.MemoryRepos.{repository_in}
 use Rattle.relay_law.proofs.Agreeing.{merges_agree}
 use Rattle.relay_law.proofs.Choosing.{some_right}
 use Rattle.relay_law.specs.Calls.{as_read}
-use Rattle.relay_step.specs.Steps.{rows}
+use Rattle.relay_step.specs.Steps.{Step, rows}
 use Rattle.relay_store.specs.Journals.{IsPairImageOf, bytes_of, joined}
 use Rattle.relay_store.specs.Store.{Keeps, seen_in}
 use Rattle.relay_store.proofs.Images.{kept_content}
 use Rattle.relay_gen.specs.Histories.{history}
 use Rattle.trial_run.specs.declared.merging.Merge.{Merge}
-use Rattle.trial_run.specs.Merging.{Sent, IsRunOf, by_host, trusting}
+use Rattle.trial_run.specs.Merging.{AreTaken, Sent, by_host}
 use Rattle.relay_gen.specs.declared.history.TheConstants.{MOST_MESSAGES}
 use Rattle.trial_run.specs.Taking.{AreStrings, IsMerged}
-use Rattle.trial_run.specs.Tried.{AreMerges, IsImageOf}
+use Rattle.trial_run.specs.Tried.{IsImageOf}
 use Rattle.trial_run.proofs.Homes.{one_home}
 use Rattle.trial_run.proofs.Orders.{merged, of_four}
-use Rattle.trial_run.proofs.Worlds.{in_world, read_steps}
+use Rattle.trial_run.proofs.Worlds.{IsRunOf, in_world, read_steps, trusting}
 
 -- ---- the beginning
 
@@ -57,11 +57,9 @@ begun merge v J one two first second image keeps opened moments none =
     let pair : IsPairImageOf J [] [] = subst (λ (c : List ℕ). IsPairImageOf J c []) first (subst (λ (c : List ℕ). IsPairImageOf J one c) second image) in
     record {
       steps = [];
-      are_sent = refl;
+      taken = record { are_sent = refl; are = λ checks opens links. tt; accepted = tt };
       strings = tt;
-      are = λ checks opens links. tt;
       none_ended = refl;
-      trusted = tt;
       keeps = subst (λ (K : List Row). Keeps K (seen_in merge.store) v) (empty_journal J pair) keeps;
       goes = opened;
       moments = moments;
@@ -70,20 +68,19 @@ begun merge v J one two first second image keeps opened moments none =
 
 -- ---- the end
 
-pub ran : (sent : Sent) (merge : Merge) (v : View) (m : IsMerged sent merge v) → IsRunOf sent (rows m.steps)
-ran sent merge v m = λ checks opens links.
-    subst (λ (l : List Message). RunIn checks trusting [] l (rows m.steps)) (read_steps m.steps ∙ ap as_read m.are_sent) (in_world checks [] [] m.steps (m.are checks opens links) m.trusted)
+ran : (sent : Sent) (steps : List Step) → AreTaken sent steps → IsRunOf sent (rows steps)
+ran sent steps taken = λ checks opens links.
+    subst (λ (l : List Message). RunIn checks trusting [] l (rows steps)) (read_steps steps ∙ ap as_read taken.are_sent) (in_world checks [] [] steps (taken.are checks opens links) taken.accepted)
 
 pub stored : (sent : Sent) (merge : Merge) (v : View) (m : IsMerged sent merge v) → IsImageOf (rows m.steps) v.content
 stored sent merge v m =
     let kept = kept_content (rows m.steps) (seen_in merge.store) v m.keeps in
     record { bodies = kept.bodies; are = kept.are; image = kept.image }
 
-pub both : (start n : ℕ) (one other : Merge) (v w : View) (a : IsMerged (history start n).messages one v) (b : IsMerged (by_host (history start n).messages) other w) → AreMerges start n (rows a.steps) (rows b.steps)
-both start n one other v w a b = record { one = ran (history start n).messages one v a; other = ran (by_host (history start n).messages) other w b }
-
 -- both come to the same accounts
-pub same_accounts : (start n : ℕ) → n ≤ MOST_MESSAGES → AreStrings (history start n).messages → (ones others : List Row) → AreMerges start n ones others → (did : List ℕ) → account did ones ≡ account did others
-same_accounts start n most strings ones others are did =
-    (merges_agree some_right.0 trusting [] [] (as_read (history start n).messages) (as_read (by_host (history start n).messages)) ones others
-    (merged (history start n).messages (of_four start n)) (one_home start n most strings) (are.one some_right.0 some_right.1 some_right.2) (are.other some_right.0 some_right.1 some_right.2)).accounts did
+pub same_accounts : (start n : ℕ) → n ≤ MOST_MESSAGES → AreStrings (history start n).messages → (ones others : List Step) → AreTaken (history start n).messages ones → AreTaken (by_host (history start n).messages) others → (did : List ℕ)
+    → account did (rows ones) ≡ account did (rows others)
+same_accounts start n most strings ones others one other did =
+    let sent = (history start n).messages in
+    (merges_agree some_right.0 trusting [] [] (as_read sent) (as_read (by_host sent)) (rows ones) (rows others) (merged sent (of_four start n)) (one_home start n most strings)
+    (ran sent ones one some_right.0 some_right.1 some_right.2) (ran (by_host sent) others other some_right.0 some_right.1 some_right.2)).accounts did

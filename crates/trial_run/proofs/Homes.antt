@@ -13,8 +13,9 @@ use Rattle.relay_gen.proofs.Honest.{own_messages}
 use Rattle.relay_law.specs.Calls.{as_read}
 use Rattle.relay_law.specs.Merges.{TellsOf, Names, OneHome}
 use Rattle.relay_gen.specs.declared.history.TheConstants.{MOST_MESSAGES}
-use Rattle.trial_run.specs.Merging.{Sent, trusting}
+use Rattle.trial_run.specs.Merging.{Sent}
 use Rattle.trial_run.specs.Taking.{AreStrings}
+use Rattle.trial_run.proofs.Worlds.{trusting}
 
 -- the host sent an event of the account
 record Sends (ms : Sent) (host did : List ℕ) : Type 0 where

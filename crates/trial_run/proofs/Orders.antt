@@ -13,7 +13,8 @@ use Rattle.relay_gen.specs.Messages.{message}
 use Rattle.relay_gen.specs.Names.{host_of}
 use Rattle.relay_law.specs.Calls.{as_read}
 use Rattle.relay_law.specs.Merges.{only, Merge}
-use Rattle.trial_run.specs.Merging.{Sent, is_chosen, those, by_host}
+use Rattle.trial_run.specs.Merging.{Sent, by_host}
+use Rattle.trial_run.specs.Taking.{is_chosen, those}
 
 -- those of a host that read
 read_only : (host : List ℕ) (ms : Sent) → only host (as_read ms) ≡ as_read (those (Some host) ms)

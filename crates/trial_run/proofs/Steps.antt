@@ -34,8 +34,8 @@ use Rattle.store_take.specs.declared.message.Message.{Message}
 use Rattle.store_take.specs.declared.outcome.Outcome.{Outcome}
 use Rattle.store_take.proofs.Runs.{ended_joined, rows_one, steps_one}
 use Rattle.trial_run.specs.declared.merging.Merge.{Merge}
-use Rattle.trial_run.specs.Merging.{Sent}
-use Rattle.trial_run.specs.Taking.{yes, sent_by, AreStrings, IsTrusted, AllTrusted, IsMerged}
+use Rattle.trial_run.specs.Merging.{AreTaken, IsAccepted, Sent, sent_by}
+use Rattle.trial_run.specs.Taking.{AreStrings, IsMerged}
 
 -- ---- a message that goes out
 
@@ -62,30 +62,6 @@ pub goes_out : (frame : Result Frame FrameFault) (told : Decided) (n m : ℕ) �
 goes_out frame after_end n m is = absurd cc
 goes_out frame (skipped pass) n m is = absurd (not_passed frame n m is)
 goes_out frame (recorded t) n m is = record { t = t; is = refl; accepted = not_refused t.refusal t n m is }
-
-module _ (checks : Checks) (J : List Row) (host : List ℕ) (t : Taken) (none : t.refusal ≡ None) where
-  nothing_fetched : (frame : Result Frame FrameFault) → IsMadeBy checks J (host, frame) (Row.Taken t) → t.fetched ≡ Fetched.NotAsked
-  nothing_fetched (Ok (Frame.Event e)) made =
-      let is : decided_event checks (last_seq J) (account e.did J) host e (shown t) ≡ t = cc in
-      sym (ap (λ (x : Taken). x.fetched) is)
-      ∙ ap (λ (o : Option Refusal). fetched_of o (answers checks (last_seq J) (account e.did J) e (shown t)).fetched) (ap (λ (x : Taken). x.refusal) is ∙ none)
-  nothing_fetched (Ok (Frame.Faulty seq)) made =
-      let is : faulty_taken host seq (Some (shown t).moment) ≡ t = cc in
-      let no : Some Refusal.BadEvent ≡ None = ap (λ (x : Taken). x.refusal) is ∙ none in
-      absurd cc
-  nothing_fetched (Ok Frame.Info) made = absurd cc
-  nothing_fetched (Ok Frame.Error) made = absurd cc
-  nothing_fetched (Ok Frame.Unknown) made = absurd cc
-  nothing_fetched (Err fault) made = absurd made
-
-  -- at the moment 0 its row shows the answers of the trusting world
-  shows_yes : (frame : Result Frame FrameFault) → IsMadeBy checks J (host, frame) (Row.Taken t) → t.moment ≡ Some 0 → shown t ≡ yes
-  shows_yes frame made now =
-      let moment : or_zero t.moment ≡ 0 = ap or_zero now in
-      let home : shows_home t.refusal ≡ true = ap shows_home none in
-      let verdict : shows_verdict t.refusal ≡ true = ap shows_verdict none in
-      let fetched : found_in t.fetched ≡ absent = ap found_in (nothing_fetched frame made) in
-      (λ i. record { moment = moment i; home = home i; verdict = verdict i; fetched = fetched i })
 
 -- ---- the one step of a batch of one message
 
@@ -129,9 +105,9 @@ timed moments left told made are time =
 
 -- ---- a message more
 
-trusted_more : (steps : List Step) (s : Step) → AllTrusted steps → IsTrusted s.decided → AllTrusted (steps ++ s ∷ [])
-trusted_more [] s all one = (one, tt)
-trusted_more (x ∷ steps) s all one = (all.0, trusted_more steps s all.1 one)
+accepted_more : (steps : List Step) (s : Step) → AllByRecursion IsAccepted steps → IsAccepted s → AllByRecursion IsAccepted (steps ++ s ∷ [])
+accepted_more [] s all one = (one, tt)
+accepted_more (x ∷ steps) s all one = (all.0, accepted_more steps s all.1 one)
 
 pairs_more : (steps : List Step) (s : Step) → map sent_by (steps ++ s ∷ []) ≡ map sent_by steps ++ sent_by s ∷ []
 pairs_more [] s = refl
@@ -141,12 +117,10 @@ goes_on : (told : Decided) (host : List ℕ) (ended : List (List ℕ)) → Made 
 goes_on told host ended made = ap (λ (x : Decided). ended_decided x host ended) made.is
 
 -- what a batch of one message leaves of a merge
-pub record Next (old : Merge) (sent_before : Sent) (v : View) (v_now : View) (host bytes : List ℕ) (s_now : StoreState) (moments : List ℕ) (repository : List ℕ → Option (List ℕ)) : Type 0 where
+pub record Next (sent_before : Sent) (v_now : View) (host bytes : List ℕ) (s_now : StoreState) (moments : List ℕ) (repository : List ℕ → Option (List ℕ)) : Type 0 where
   pub steps : List Step
-  pub are_sent : map sent_by steps ≡ sent_before ++ (host, bytes) ∷ []
-  pub are : (checks : Checks) → OpensRight checks → LinksRight checks → AreSteps checks [] [] steps
+  pub taken : AreTaken (sent_before ++ (host, bytes) ∷ []) steps
   pub none_ended : ended_by_all steps [] ≡ []
-  pub trusted : AllTrusted steps
   pub keeps : Keeps (rows steps) s_now v_now
   pub times : moments ≡ 0 ∷ []
   pub none : (did : List ℕ) → repository did ≡ None
@@ -156,7 +130,7 @@ module _ (merge : Merge) (before : Sent) (v : View) (m : IsMerged before merge v
       → ((did : List ℕ) → repository did ≡ None) → (moments : List ℕ) → moments ≡ 0 ∷ []
       → Keeps (rows m.steps) (seen_in merge.store) (view d)
       → Batched view true true true (rows m.steps) (message_from host bytes ∷ []) (scene (seen_in merge.store) d (around panel moments repository)) (scene s_now d_now (around panel_now moments_now repository_now)) (o ∷ []) None
-      → Next merge before (view d) (view d_now) host bytes s_now moments_now repository_now
+      → Next before (view d_now) host bytes s_now moments_now repository_now
   next view d d_now panel panel_now moments_now repository repository_now s_now host bytes o n k is empty moments times keeps b =
       let one = one_step b.steps b.extra b.behind host bytes o n k is b.which b.front b.answers in
       let all : b.steps ++ b.extra ≡ one.s ∷ [] = ap (λ (l : List Step). b.steps ++ l) b.which ∙ append-nil b.steps ∙ one.steps_are in
@@ -164,20 +138,17 @@ module _ (merge : Merge) (before : Sent) (v : View) (m : IsMerged before merge v
       let time = timed moments asked.0.moments one.s.decided one.made times (asked.1.timed refl) in
       let told : (checks : Checks) → OpensRight checks → LinksRight checks → IsDecidedAs checks (rows m.steps) [] (message_of one.s) one.s.decided =
       λ checks opens links. (subst (λ (l : List Step). AreSteps checks (rows m.steps) [] l) all (b.are checks opens links)).0 in
-      let is_recorded : (checks : Checks) → OpensRight checks → LinksRight checks → IsDecidedAs checks (rows m.steps) [] (message_of one.s) (recorded one.made.t) =
-      λ checks opens links. subst (λ (x : Decided). IsDecidedAs checks (rows m.steps) [] (message_of one.s) x) one.made.is (told checks opens links) in
-      let yes_shown : shown one.made.t ≡ yes =
-      shows_yes some_right.0 (rows m.steps) one.s.host one.made.t one.made.accepted (frame_of one.s.bytes) (is_recorded some_right.0 some_right.1 some_right.2).2 time.0 in
-      let trusted : IsTrusted one.s.decided = subst IsTrusted (sym one.made.is) yes_shown in
       let rows_are : rows m.steps ++ rows b.steps ≡ rows (m.steps ++ one.s ∷ []) =
       ap (λ (l : List Step). rows m.steps ++ rows l) one.steps_are ∙ ap (λ (l : List Row). rows m.steps ++ l) (append-nil (rows_decided one.s.decided)) ∙ sym (rows_one m.steps one.s) in
       record {
         steps = m.steps ++ one.s ∷ [];
-        are_sent = pairs_more m.steps one.s ∙ ap (λ (l : Sent). l ++ sent_by one.s ∷ []) m.are_sent ∙ ap (λ (p : List ℕ × List ℕ). before ++ p ∷ []) (λ i. (one.host_is i, one.bytes_are i));
-        are = λ checks opens links. steps_one checks [] [] m.steps one.s (m.are checks opens links)
-            (subst (λ (e : List (List ℕ)). IsDecidedAs checks (rows m.steps) e (message_of one.s) one.s.decided) (sym m.none_ended) (told checks opens links));
+        taken = record {
+          are_sent = pairs_more m.steps one.s ∙ ap (λ (l : Sent). l ++ sent_by one.s ∷ []) m.taken.are_sent ∙ ap (λ (p : List ℕ × List ℕ). before ++ p ∷ []) (λ i. (one.host_is i, one.bytes_are i));
+          are = λ checks opens links. steps_one checks [] [] m.steps one.s (m.taken.are checks opens links)
+              (subst (λ (e : List (List ℕ)). IsDecidedAs checks (rows m.steps) e (message_of one.s) one.s.decided) (sym m.none_ended) (told checks opens links));
+          accepted = accepted_more m.steps one.s m.taken.accepted (one.made.t, one.made.is, time.0, one.made.accepted);
+        };
         none_ended = ended_joined m.steps (one.s ∷ []) [] ∙ goes_on one.s.decided one.s.host (ended_by_all m.steps []) one.made ∙ m.none_ended;
-        trusted = trusted_more m.steps one.s m.trusted trusted;
         keeps = subst (λ (J : List Row). Keeps J s_now (view d_now)) rows_are (b.keeps (λ is. cc) refl keeps);
         times = b.asked.stops.moments refl ∙ asked.2.moments refl ∙ time.1;
         none = λ did. b.asked.stops.same refl did ∙ asked.2.same refl did ∙ asked.1.same refl did ∙ empty did;

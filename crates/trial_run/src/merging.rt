@@ -3,8 +3,8 @@
 ghost use Rattle.std.specs.Prelude.{◌≡◌, ◌++◌, ◌∷◌, [], length, true, option_map, IfOk, OnOk};
 ghost use Rattle.at_cbor.specs.Encoding.{IsString};
 ghost use Rattle.relay_disk.specs.MemoryView.{memory_view};
-ghost use Rattle.trial_run.specs.Merging.{Sent, is_chosen, those, by_host};
-ghost use Rattle.trial_run.specs.Taking.{IsMerged};
+ghost use Rattle.trial_run.specs.Merging.{Sent, by_host};
+ghost use Rattle.trial_run.specs.Taking.{IsMerged, is_chosen, those};
 
 use at_authority::TrustAll;
 use at_cid::Memory;

@@ -8,7 +8,8 @@ returns-clause-tried g c =
     record {
       ones = came.ones;
       others = came.others;
-      are = came.are;
+      one = came.one;
+      other = came.other;
       written = λ told. subst (λ (t : List ℕ). AddsFront (g.O.Sink.written c.args.out.now) (g.O.Sink.written c.write_all.new.out) t) (c.as_slice.ensures.value ∙ came.written) (c.write_all.ensures.front told);
       first_holds = came.first_holds;
       second_holds = came.second_holds;

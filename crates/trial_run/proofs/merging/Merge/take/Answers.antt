@@ -11,11 +11,9 @@ returns-in-Ok-Event c = λ before m.
     m.none _ m.moments keeps (c.in-Ok-Event.ensures.batched (rows m.steps) (record { holds = m.keeps.core; journal = m.keeps.are.journal })) in
     record {
       steps = n.steps;
-      are_sent = n.are_sent;
+      taken = n.taken;
       strings = strings_more before (c.args.host.now, c.args.message.now) m.strings (c.is_string.ensures c.if-not-is_string.false);
-      are = n.are;
       none_ended = n.none_ended;
-      trusted = n.trusted;
       keeps = n.keeps;
       goes = c.in-Ok-Event.ensures.open (λ is. cc);
       moments = n.times;

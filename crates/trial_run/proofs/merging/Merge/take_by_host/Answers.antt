@@ -1,5 +1,6 @@
 use Rattle.std.proofs.Common.{◌++◌, Some, List, ℕ, ◌∙◌, refl}
-use Rattle.trial_run.specs.Merging.{Sent, those}
+use Rattle.trial_run.specs.Merging.{Sent}
+use Rattle.trial_run.specs.Taking.{those}
 use Rattle.trial_run.proofs.Steps.{four, moved}
 use Rattle.trial_run.proofs.merging.Merge.take_by_host.Goals as goal
 

@@ -1,5 +1,5 @@
 use Rattle.std.proofs.Common.{◌≡◌, ◌++◌, ◌∷◌, [], ◌+◌, ◌-◌, true, take, option_map, refl, sym, ◌∙◌, arith}
-use Rattle.trial_run.specs.Merging.{those}
+use Rattle.trial_run.specs.Taking.{those}
 use Rattle.trial_run.proofs.Orders.{those_more, those_same, with_message}
 use Rattle.trial_run.proofs.Steps.{moved}
 use Rattle.trial_run.proofs.merging.Merge.take_those.Goals as goal

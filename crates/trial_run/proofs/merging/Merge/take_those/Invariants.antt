@@ -1,7 +1,7 @@
 use Rattle.std.proofs.Common.{◌++◌, take, option_map}
 use Rattle.relay_disk.specs.MemoryView.{memory_view}
-use Rattle.trial_run.specs.Merging.{Sent, those}
-use Rattle.trial_run.specs.Taking.{IsMerged}
+use Rattle.trial_run.specs.Merging.{Sent}
+use Rattle.trial_run.specs.Taking.{IsMerged, those}
 use Rattle.trial_run.proofs.merging.Merge.take_those.Given as goal
 
 abbrev pub invariant-messages : goal.invariant-messages
