@@ -9,6 +9,7 @@ GUID = b"258EAFA5-E914-47DA-95CA-C5AB0DC85B11"
 CONTINUE, TEXT, BINARY, CLOSE, PING, PONG = 0, 1, 2, 8, 9, 10
 NAMES = {CONTINUE: "more", TEXT: "text", BINARY: "message", CLOSE: "close", PING: "ping", PONG: "pong"}
 KEY = b"abcd"
+LONG = 120  # seconds after which what has to come is waited for no more; a busy machine is slow
 
 
 def frame(opcode, payload=b"", final=True, masked=False, size=None):
@@ -91,20 +92,21 @@ def says(content):
             peer.sendall(content)
         except OSError:
             pass
-        return read_rest(peer, 15)
+        return read_rest(peer, LONG)
 
     return play
 
 
 def connect(port, narrow=False):
     """A connection to a port of this machine, once it is open. A narrow one takes little at a time."""
-    for _ in range(400):
+    end = time.monotonic() + LONG
+    while time.monotonic() < end:
         peer = socket.socket()
         if narrow:
             peer.setsockopt(socket.SOL_SOCKET, socket.SO_RCVBUF, 4096)
         try:
             peer.connect(("127.0.0.1", port))
-            peer.settimeout(20)
+            peer.settimeout(LONG)
             return peer
         except OSError:
             peer.close()

@@ -3,7 +3,7 @@ import base64
 import socket
 import time
 
-from frames import BINARY, CLOSE, CONTINUE, PING, TEXT, frame, played, read_head, read_rest, reset, says
+from frames import BINARY, CLOSE, CONTINUE, LONG, PING, TEXT, frame, played, read_head, read_rest, reset, says
 
 TARGET = "/xrpc/com.atproto.sync.subscribeRepos?cursor=4"
 NONCE = base64.b64encode(b"0123456789abcdef").decode()
@@ -38,7 +38,7 @@ def polite(peer, target=TARGET):
     peer.sendall(request(target=target))
     taken = take_all(peer, read_head(peer))
     peer.sendall(GOODBYE)
-    rest, ending = read_rest(peer, 5)
+    rest, ending = read_rest(peer, LONG)
     return taken + rest, ending
 
 
@@ -47,7 +47,7 @@ def in_steps(peer):
         peer.sendall(bytes([byte]))
     taken = take_all(peer, read_head(peer))
     peer.sendall(GOODBYE)
-    rest, ending = read_rest(peer, 5)
+    rest, ending = read_rest(peer, LONG)
     return taken + rest, ending
 
 
@@ -80,7 +80,7 @@ def reset_at_once(peer):
 def half_a_head(peer):
     peer.sendall(request()[:40])
     peer.shutdown(socket.SHUT_WR)
-    return read_rest(peer, 5)
+    return read_rest(peer, LONG)
 
 
 def leaves_without_a_close(peer):
@@ -90,26 +90,26 @@ def leaves_without_a_close(peer):
 def half_closed(peer):
     head = enter(peer)
     peer.shutdown(socket.SHUT_WR)
-    rest, ending = read_rest(peer, 5)
+    rest, ending = read_rest(peer, LONG)
     return head + rest, ending
 
 
 def silent_at_the_close(peer):
     head = enter(peer)
-    rest, ending = read_rest(peer, 15)
+    rest, ending = read_rest(peer, LONG)
     return head + rest, ending
 
 
 def goodbye_first(peer):
     peer.sendall(request() + GOODBYE)
-    return read_rest(peer, 5)
+    return read_rest(peer, LONG)
 
 
 def with_pings(peer):
     head = enter(peer)
     peer.sendall(b"".join(frame(PING, b"p%d" % i, masked=True) for i in range(3)))
     peer.sendall(frame(BINARY, b"x" * 1000, masked=True) * 20 + GOODBYE)
-    rest, ending = read_rest(peer, 5)
+    rest, ending = read_rest(peer, LONG)
     return head + rest, ending
 
 
@@ -119,7 +119,7 @@ def speaks(content):
     def play(peer):
         head = enter(peer)
         peer.sendall(content)
-        rest, ending = read_rest(peer, 5)
+        rest, ending = read_rest(peer, LONG)
         return head + rest, ending
 
     return play
@@ -184,7 +184,7 @@ def goodbye_in_the_middle(peer):
     enter(peer)
     take(peer, 3_000_000)
     peer.sendall(GOODBYE)
-    _, ending = read_rest(peer, 10)
+    _, ending = read_rest(peer, LONG)
     return b"", ending
 
 

@@ -1,7 +1,7 @@
 """Hosts for the feed: each function plays one, from the request on. What a host hands back are the frames that it saw."""
 import time
 
-from frames import BINARY, CLOSE, CONTINUE, PING, PONG, TEXT, accept_key, frame, read_head, read_rest, reset, split
+from frames import BINARY, CLOSE, CONTINUE, LONG, PING, PONG, TEXT, accept_key, frame, read_head, read_rest, reset, split
 
 LONGEST = 8_388_608
 FAREWELL = frame(CLOSE, b"\x03\xe8")
@@ -15,7 +15,7 @@ def answer(head, wrong=False):
     return b"\r\n".join(fields) + b"\r\n\r\n"
 
 
-def seen(peer, seconds=5):
+def seen(peer, seconds=LONG):
     taken, _ = read_rest(peer, seconds)
     return split(taken)
 

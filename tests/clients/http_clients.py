@@ -2,7 +2,7 @@
 import socket
 import time
 
-from frames import played, read_rest, reset, says
+from frames import LONG, played, read_rest, reset, says
 
 TARGET = "/xrpc/com.atproto.sync.getRepoStatus?did=did:plc:ada"
 LONGEST = 8_192
@@ -27,7 +27,7 @@ def ends_behind(content):
     def play(peer):
         peer.sendall(content)
         peer.shutdown(socket.SHUT_WR)
-        return read_rest(peer, 15)
+        return read_rest(peer, LONG)
 
     return play
 
@@ -35,7 +35,7 @@ def ends_behind(content):
 def in_steps(peer):
     for byte in request():
         peer.sendall(bytes([byte]))
-    return read_rest(peer, 15)
+    return read_rest(peer, LONG)
 
 
 def byte_a_second(peer):
@@ -46,7 +46,7 @@ def byte_a_second(peer):
             piece = peer.recv(1 << 16)
         except TimeoutError:
             continue
-        rest, ending = read_rest(peer, 5)
+        rest, ending = read_rest(peer, LONG)
         return piece + rest, ending
     return b"", "silence"
 
@@ -54,7 +54,7 @@ def byte_a_second(peer):
 def stays(peer):
     """Asks, and doesn't close behind the reply."""
     peer.sendall(request())
-    found = read_rest(peer, 15)
+    found = read_rest(peer, LONG)
     time.sleep(3)
     return found
 

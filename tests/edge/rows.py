@@ -40,10 +40,10 @@ def needs(command):
 
 
 class Rows:
-    """The rows of a module, in their order."""
+    """The rows of a module, in their order, and what failed of those that were run."""
 
     def __init__(self):
-        self.rows = []
+        self.rows, self.failures = [], []
 
     def row(self, name):
         """Adds the function below as the row of this name. It is given a folder of its own, which goes after it."""
@@ -68,9 +68,22 @@ class Rows:
                     print(f"{name}: LEFT OUT: {lack}", flush=True)
                     left_out += 1
                 except Wrong as wrong:
-                    print(f"{name}: {wrong}", flush=True)
+                    self.fail(f"{name}: {wrong}")
                     failed += 1
                 except Exception:  # a row that breaks off is a row that failed
-                    print(f"{name}: {traceback.format_exc()}", flush=True)
+                    self.fail(f"{name}: {traceback.format_exc()}")
                     failed += 1
         return passed, failed, left_out
+
+    def fail(self, told):
+        print(told, flush=True)
+        self.failures.append(told)
+
+
+def tell_failures(*modules):
+    """Prints once more what failed of the rows of some modules, a line each: who sees the end of a long output alone sees which these
+    are."""
+    for rows in modules:
+        for told in rows.failures:
+            first, *rest = told.rstrip().split("\n")
+            print(f"FAILED: {first}", *rest[-1:], flush=True)

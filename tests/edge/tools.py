@@ -24,7 +24,8 @@ WORLD = program.TOP / "tests/world"
 sys.path[:0] = [str(TOOLS), str(WORLD)]
 ROWS = Rows()
 LIBRARIES = ("cryptography", "websockets")
-MOMENTS = 60  # seconds that a run may take on a machine with other work
+MOMENTS = 180  # seconds that a run may take on a machine with other work
+SOON = 30  # seconds in which a signal ends a run there
 NO_TAPE, FAILED, DISK, BAD_TABLE, NO_RELAY, NO_LIBRARY = 3, 4, 5, 6, 7, 8
 HOST = "pds.example.com"
 FIRST_LOST, CUT = 130, 100  # of the sample: the messages up to the first by which an account is lost, and the events that are cut
@@ -287,14 +288,14 @@ def slow_names(folder):
     honest.web = accounts.Account("web", accounts.P256, f"did:web:localhost%3A{honest.server.server_port}")
     records = identities("slow.example", [server.did() for server in slow]) + identities(honest.name, [honest.web.did])
     (folder / "web.1").write_text(f"home {slow[11].did()} before.example\n")
-    begun = time.monotonic()
-    status, out, err = run("vouch", folder, tape(folder / "tape", *records), "--plain", "--patience", 0.5)
+    begun, patience = time.monotonic(), 2
+    status, out, err = run("vouch", folder, tape(folder / "tape", *records), "--plain", "--patience", patience)
     same(status, FAILED, "the status")
-    expect(time.monotonic() - begun < 12 * 3 * 0.5, "it took as long as all names in three tries")
+    expect(time.monotonic() - begun < 12 * 3 * patience, "it took as long as all names in three tries")
     asked = sum(bool(server.asked) for server in slow)
     expect(4 <= asked <= 5, f"{asked} of the slow names were asked")
     expect(all(len(server.asked) <= 1 for server in slow), "a name was asked twice")
-    expect(f"{12 - asked} accounts were left out: names of slow.example took 2 seconds in this run" in err, err)
+    expect(f"{12 - asked} accounts were left out: names of slow.example took {4 * patience} seconds in this run" in err, err)
     lines = (folder / "web.1").read_text().splitlines()
     same(lines, [f"home {slow[11].did()} before.example", f"home {honest.web.did} {honest.name}"], "the table")
 
@@ -334,7 +335,7 @@ def slow_homes(folder):
     dids = [f"did:plc:{name * 24}" for name in "abcdef"]
     (folder / "plc.1").write_text("".join(f"home {did} localhost:{server.server_port}\n" for did in dids))
     words = [word for did in dids for word in ("--did", did)]
-    status, out, _ = run("repositories", folder, *words, "--no-sync", "--plain", "--patience", 0.5, "--jobs", 1)
+    status, out, _ = run("repositories", folder, *words, "--no-sync", "--plain", "--patience", 2, "--jobs", 1)
     same((status, len(server.asked)), (FAILED, 3), "the status, and how often the home was asked")
     same(out.count(" failed before\n"), 3, "who wasn't asked for")
     status, out, _ = run("repositories", folder, *words, "--no-sync", "--plain", "--patience", 20, "--seconds", 1)
@@ -451,7 +452,7 @@ def signals(folder):
                                        when=lambda: any((folder / "repos").glob("*.new")))
         same(status, 128 + number, f"the status of repositories at {number.name}")
         expect("repositories: stopped; each account whose line was printed is done\n" in err and "Traceback" not in err, err)
-        expect(seconds < 10, f"it took {seconds:.0f} seconds to stop")
+        expect(seconds < SOON, f"it took {seconds:.0f} seconds to stop")
         same(list((folder / "repos").iterdir()), [], "what is left in repos")
         for path in (folder / "web.1", folder / "web.1.sum", folder / "plc.1.sum"):
             path.unlink(missing_ok=True)
@@ -459,7 +460,7 @@ def signals(folder):
         status, err, seconds = stopped("vouch", folder, "--did", server.did(), "--plain", number=number, when=lambda: server.asked)
         same((status, (folder / "plc.1").read_bytes()), (128 + number, table), f"vouch at {number.name}")
         expect("vouch: stopped; each table is whole" in err and "Traceback" not in err, err)
-        expect(seconds < 10, f"it took {seconds:.0f} seconds to stop")
+        expect(seconds < SOON, f"it took {seconds:.0f} seconds to stop")
     same([path.name for path in folder.rglob("*.new")], [], "files that were begun")
 
 

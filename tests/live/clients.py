@@ -1,5 +1,6 @@
 """Consumers of a live relay, by the library `websockets`: each in a thread of its own, which may break off and come back."""
 import asyncio
+import http.client
 import io
 import pathlib
 import sys
@@ -10,6 +11,7 @@ import websockets
 
 sys.path.insert(0, str(pathlib.Path(__file__).resolve().parents[1] / "world"))
 from consumer import Consumer  # noqa: E402
+from live_tool import WAIT  # noqa: E402
 
 
 def read(message: bytes) -> "tuple[dict, dict]":
@@ -18,20 +20,20 @@ def read(message: bytes) -> "tuple[dict, dict]":
     return decoder.decode(), decoder.decode()
 
 
-async def take(address: str, most: int, seconds: float) -> "list[bytes]":
-    """The messages of a stream: `most` of them, or those that come until nothing comes for some seconds, or the relay ends it."""
+async def take(address: str, most: int) -> "list[bytes]":
+    """The messages of a stream: `most` of them, or those that come until the relay ends it, or nothing is waited for any more."""
     found = []
-    async with websockets.connect(address, max_size=None, compression=None, open_timeout=seconds) as door:
+    async with websockets.connect(address, max_size=None, compression=None, open_timeout=WAIT, ping_interval=None) as door:
         try:
             while len(found) < most:
-                found.append(await asyncio.wait_for(door.recv(), seconds))
+                found.append(await asyncio.wait_for(door.recv(), WAIT))
         except (asyncio.TimeoutError, websockets.ConnectionClosed):
             pass
     return found
 
 
-def taken(address: str, most: int, seconds: float) -> "list[bytes]":
-    return asyncio.run(take(address, most, seconds))
+def taken(address: str, most: int) -> "list[bytes]":
+    return asyncio.run(take(address, most))
 
 
 class Reader:
@@ -57,14 +59,14 @@ class Reader:
         while not self.is_ended:
             try:
                 await self.read_once()
-            except (OSError, asyncio.TimeoutError, websockets.WebSocketException):
+            except (OSError, asyncio.TimeoutError, http.client.HTTPException, websockets.WebSocketException):
                 await asyncio.sleep(0.2)
 
     async def read_once(self) -> None:
         loop = asyncio.get_running_loop()
         end = loop.time() + self.draw.uniform(*self.gap) if self.gap else float("inf")
         address = f"{self.address}?cursor={self.cursor}"
-        async with websockets.connect(address, max_size=None, compression=None, open_timeout=60, close_timeout=1) as door:
+        async with websockets.connect(address, max_size=None, compression=None, open_timeout=WAIT, close_timeout=1) as door:
             self.connections += 1
             while not self.is_ended and loop.time() < end:
                 try:
@@ -75,15 +77,16 @@ class Reader:
                 door.transport.abort()  # breaks off without a word
 
     def take(self, message: bytes) -> None:
-        header, payload = read(message)
+        """Takes a message, and only then has come to its number: one that fails comes again, and whoever sees the number sees it all."""
+        _, payload = read(message)
         if "seq" not in payload:
             self.notices.append(payload)
             return
-        self.cursor = payload["seq"]
-        self.numbers.append(self.cursor)
-        self.messages[self.cursor] = message
         self.consumer.take(message)
+        self.numbers.append(payload["seq"])
+        self.messages[payload["seq"]] = message
+        self.cursor = payload["seq"]
 
     def stop(self) -> None:
         self.is_ended = True
-        self.thread.join(60)
+        self.thread.join(WAIT)

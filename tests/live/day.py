@@ -3,10 +3,10 @@ import random
 import threading
 import time
 
-from rows import Rows, expect, same
+from rows import Rows, Wrong, expect, same
 
 from clients import Reader, read, taken
-from live_tool import Relay, wait_for
+from live_tool import SOON, Relay, wait_for
 from scene import P256, Hostile, Scene, Shared
 
 ROWS = Rows()
@@ -14,6 +14,7 @@ LONG = {"steps": 240, "pause": 0.4}
 QUICK = {"steps": 30, "pause": 0.1}
 LENGTH = LONG
 DISTURBANCES = 3  # by the hostile host
+TRIES = 10
 
 
 @ROWS.row("three consumers hold every account's records")
@@ -66,6 +67,21 @@ def in_order(relay, readers):
         same(reader.notices, [], "the notices that came")
 
 
+def passes_by(relay, scene, slow_host, slow):
+    """Whether a host's messages are taken while that of a slow one waits."""
+    before = len(slow_host.events)
+    slow_host.commit(slow)
+    wait_for(lambda: relay.metrics()[f'live_host_waiting_messages{{host="{slow_host.name}"}}'] == 1
+             or relay.cursors()[slow_host.name] > before, "its message waits")
+    for _ in range(5):
+        scene.step()
+    wait_for(lambda: relay.cursors()[scene.hosts[0].name] == len(scene.hosts[0].events), "the other host's messages are taken")
+    if relay.cursors()[slow_host.name] == before:
+        return True
+    wait_for(lambda: relay.cursors()[slow_host.name] == len(slow_host.events), "the slow host's message is taken at last")
+    return False
+
+
 def number(message):
     return read(message)[1]["seq"]
 
@@ -77,7 +93,7 @@ def from_now_on(folder):
         relay.wait_until_taken(scene.sent())
         before = relay.metrics()["live_last_number"]
         found = []
-        thread = threading.Thread(target=lambda: found.extend(taken(relay.stream(), 2, 60)))
+        thread = threading.Thread(target=lambda: found.extend(taken(relay.stream(), 2)))
         thread.start()
         wait_for(lambda: relay.metrics()["live_consumers"] == 1, "the consumer is there")
         scene.hosts[0].commit(scene.accounts()[0])
@@ -92,33 +108,32 @@ def notices(folder):
     scene = Scene(hosts=1)
     with Relay(folder / "day", scene.directory.address, [scene.hosts[0].name]) as relay:
         relay.wait_until_taken(scene.sent())
-        same(taken(f"{relay.stream()}?cursor=99999", 2, 20), [bytes.fromhex("a1626f7020") + bytes.fromhex("a1656572726f726c467574757265437572736f72")],
+        same(taken(f"{relay.stream()}?cursor=99999", 2), [bytes.fromhex("a1626f7020") + bytes.fromhex("a1656572726f726c467574757265437572736f72")],
              "what comes of a cursor that is too new")
         same(relay.command("cut", "3"), (0, f"cut 3 oldest 4 last {int(relay.metrics()['live_last_number'])}"), "a cut")
-        got = taken(f"{relay.stream()}?cursor=1", 3, 20)
+        got = taken(f"{relay.stream()}?cursor=1", 3)
         same(got[0], bytes.fromhex("a261746523696e666f626f7001") + bytes.fromhex("a1646e616d656e4f75746461746564437572736f72"), "the notice")
         same([number(message) for message in got[1:]], [4, 5], "the events after it")
-        same([number(message) for message in taken(f"{relay.stream()}?cursor=3", 2, 20)], [4, 5], "after a cursor that isn't too old")
+        same([number(message) for message in taken(f"{relay.stream()}?cursor=3", 2)], [4, 5], "after a cursor that isn't too old")
         for cursor in ("x", "-1", "", "9007199254740992"):
             same(relay.get(f"/xrpc/com.atproto.sync.subscribeRepos?cursor={cursor}")[0], 400, f"the cursor {cursor!r}")
 
 
 @ROWS.row("a host whose names answer slowly delays no other")
 def slow_names(folder):
-    """While the document of an account is on its way for long, other hosts' messages are taken; a signal doesn't wait for it."""
+    """While the document of an account is on its way for long, other hosts' messages are taken; a signal doesn't wait for it. It is
+    waited for for some seconds alone, in which a busy machine may do nothing else: so this is tried more than once."""
     scene = Scene(hosts=1, accounts=2)
     hostile = Hostile(scene)
     port = hostile.host.server.server_port
     slow = Shared("slow", P256, f"did:web:localhost%3A{port}")
     with Relay(folder / "names", scene.directory.address, [scene.hosts[0].name, hostile.host.name], documents={"patience": 600.0}) as relay:
         relay.wait_until_taken({**scene.sent(), hostile.host.name: len(hostile.host.events)})
-        hostile.host.web, hostile.host.is_slow = slow, True
-        before = len(hostile.host.events)
-        hostile.host.commit(slow)
-        wait_for(lambda: relay.metrics()[f'live_host_waiting_messages{{host="{hostile.host.name}"}}'] == 1, "its message waits")
-        for _ in range(5):
-            scene.step()
-        wait_for(lambda: relay.cursors()[scene.hosts[0].name] == len(scene.hosts[0].events), "the other host's messages are taken")
-        same(relay.cursors()[hostile.host.name], before, "where the journal is with the slow one")
+        hostile.host.web, hostile.host.slowness = slow, 5.0  # the document's bytes take half an hour or more
+        for _ in range(TRIES):
+            if passes_by(relay, scene, hostile.host, slow):
+                break
+        else:
+            raise Wrong("other messages were never taken while the slow host's one waited")
         status, seconds = relay.stop()
-        same((status, seconds < 20), (0, True), f"its end, after {seconds:.1f} seconds")
+        same((status, seconds < SOON), (0, True), f"its end, after {seconds:.1f} seconds")

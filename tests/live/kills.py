@@ -10,7 +10,7 @@ from rows import Rows, Wrong, same
 
 import day
 from clients import Reader
-from live_tool import Relay, wait_for
+from live_tool import SOON, Relay, wait_for
 from scene import Scene
 
 ROWS = Rows()
@@ -56,7 +56,7 @@ def killed(folder):
         reader.stop()
         day.compare(scene, [reader])
         status, seconds = relay.stop()
-        same((status, seconds < 10), (0, True), f"its end, after {seconds:.1f} seconds")
+        same((status, seconds < SOON), (0, True), f"its end, after {seconds:.1f} seconds")
         day.in_order(relay, [reader])
         same(sorted(path.name for path in relay.folder.glob("live.tape*")), [], "the tapes that are left")
 
@@ -81,7 +81,7 @@ def ended(folder):
     with relay:
         wait_for(lambda: relay.metrics()[f'live_host_waiting_messages{{host="{scene.hosts[0].name}"}}'] > 0, "something waits")
         status, seconds = relay.stop()
-        same((status, seconds < 10), (0, True), f"its end, after {seconds:.1f} seconds")
+        same((status, seconds < SOON), (0, True), f"its end, after {seconds:.1f} seconds")
         relay.start("--interval", "0.2")
         relay.wait_until_taken(scene.sent())
         same(relay.stop(signal.SIGINT)[0], 0, "its end by another signal")

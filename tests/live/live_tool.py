@@ -2,9 +2,9 @@
 import json
 import os
 import pathlib
+import random
 import re
 import signal
-import socket
 import subprocess
 import sys
 import time
@@ -17,6 +17,7 @@ from rows import Wrong  # noqa: E402
 
 TOOL = program.TOP / "tools/live"
 WAIT = 300  # seconds after which nothing is waited for any more; a busy machine is slow
+SOON = 30  # seconds in which it ends, whatever it waits for; what it gives runs, hosts and consumers at its end comes to less
 LISTENING = re.compile(r"listening on (http://\S+) last (\d+) hosts (\d+)")
 SECTIONS = {"batch": {"interval": 0.2, "longest_pause": 0.5}, "host": {"longest_pause": 2.0}, "documents": {"rate": 1000.0},
             "repositories": {"first_pause": 0.5, "longest_pause": 4.0}, "window": {"every": 1.0}}
@@ -35,10 +36,12 @@ def wait_for(is_so, what: str, seconds: float = WAIT):
 
 
 def free_port() -> int:
-    """A port that nobody listens at."""
-    with socket.socket() as listener:
-        listener.bind(("127.0.0.1", 0))
-        return listener.getsockname()[1]
+    """A port that nobody listens at, and that the system gives to no connection while a relay that is started again doesn't have it."""
+    first = int(pathlib.Path("/proc/sys/net/ipv4/ip_local_port_range").read_text().split()[0])
+    while True:
+        port = random.randrange(min(10_000, first // 2), first)
+        if program.is_free(port):
+            return port
 
 
 def toml(value: object) -> str:

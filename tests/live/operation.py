@@ -8,7 +8,7 @@ import time
 from rows import Rows, expect, needs, same
 
 from clients import Reader, read, taken
-from live_tool import TOOL, Relay, wait_for
+from live_tool import TOOL, WAIT, Relay, wait_for
 from scene import Scene
 
 ROWS = Rows()
@@ -30,15 +30,15 @@ def takedown(folder):
         wait_for(lambda: reader.cursor == 6, "all events")
         all_kinds = [(1, "#identity", first.did), (2, "#account", first.did), (3, "#commit", first.did),
                      (4, "#identity", second.did), (5, "#account", second.did), (6, "#commit", second.did)]
-        same(kinds(taken(f"{relay.stream()}?cursor=0", 6, 30)), all_kinds, "the events")
+        same(kinds(taken(f"{relay.stream()}?cursor=0", 6)), all_kinds, "the events")
         same(relay.command("takedown", first.did), (0, "event 7"), "a takedown")
         wait_for(lambda: reader.cursor == 7, "its event")
         hidden = [each for each in all_kinds if each[0] != 3]
         down = [*hidden, (7, "#account", first.did)]
-        same(kinds(taken(f"{relay.stream()}?cursor=0", 6, 30)), down, "what is shown then")
+        same(kinds(taken(f"{relay.stream()}?cursor=0", 6)), down, "what is shown then")
         same(relay.command("takedown", first.did), (15, "refused 31 AlreadyDown"), "a second takedown")
         same(relay.command("restore", first.did), (0, "event 8"), "taking it back")
-        same(kinds(taken(f"{relay.stream()}?cursor=0", 8, 30)), [*all_kinds, (7, "#account", first.did), (8, "#account", first.did)], "what is shown at last")
+        same(kinds(taken(f"{relay.stream()}?cursor=0", 8)), [*all_kinds, (7, "#account", first.did), (8, "#account", first.did)], "what is shown at last")
         reader.stop()
         same(reader.numbers, list(range(1, 9)), "what the consumer got")
 
@@ -54,10 +54,10 @@ def taken_down_by_its_host(folder):
         host.commit(second)
         relay.wait_until_taken(scene.sent())
         shown = [(1, "#identity"), (2, "#account"), (4, "#identity"), (5, "#account"), (6, "#commit"), (8, "#account"), (9, "#commit")]
-        same([each[:2] for each in kinds(taken(f"{relay.stream()}?cursor=0", 7, 30))], shown, "while it is down")
+        same([each[:2] for each in kinds(taken(f"{relay.stream()}?cursor=0", 7))], shown, "while it is down")
         host.state(first, True)
         relay.wait_until_taken(scene.sent())
-        same([each[0] for each in kinds(taken(f"{relay.stream()}?cursor=0", 10, 30))], list(range(1, 11)), "once it is back")
+        same([each[0] for each in kinds(taken(f"{relay.stream()}?cursor=0", 10))], list(range(1, 11)), "once it is back")
 
 
 @ROWS.row("commands that are none, and stop")
@@ -72,7 +72,7 @@ def commands(folder):
         status, said = relay.command("status")
         same((status, said.splitlines()[0]), (0, "last 3"), "its status")
         expect(f"host {scene.hosts[0].name} cursor 3 waiting 0 connected" in said, f"the host in {said!r}")
-        done = subprocess.run([sys.executable, TOOL, relay.folder], stdin=subprocess.DEVNULL, capture_output=True, text=True, check=False, timeout=60)
+        done = subprocess.run([sys.executable, TOOL, relay.folder], stdin=subprocess.DEVNULL, capture_output=True, text=True, check=False, timeout=WAIT)
         same((done.returncode, "another live relay works on this folder" in done.stderr), (5, True), "a second one on the folder")
         same(relay.command("stop"), (0, "stopping"), "stop")
         same(relay.ended(), 0, "its status")
@@ -91,11 +91,13 @@ def lost(folder):
         host.commit(account)
         wait_for(lambda: relay.metrics()["live_failed_fetches_total"] >= 2, "two tries that fail")
         expect("has revision" in relay.command("status")[1], "why it fails isn't said")
-        same(list((relay.folder / "repos").iterdir()), [], "the files that are left")
-        same(read(taken(f"{relay.stream()}?cursor=0", 3, 30)[-1])[1]["seq"], 3, "the last event")
+        wait_for(lambda: not list((relay.folder / "repos").iterdir()), "between two tries no file is left")
+        done = subprocess.run([sys.executable, TOOL, relay.folder], stdin=subprocess.DEVNULL, capture_output=True, check=False, timeout=WAIT)
+        same((done.returncode, account.did in (relay.folder / "live.lost").read_text()), (5, True), "what a second one on the folder leaves")
+        same(read(taken(f"{relay.stream()}?cursor=0", 3)[-1])[1]["seq"], 3, "the last event")
         host.repositories.clear()
         relay.wait_until_taken(scene.sent())
-        same([kind for _, kind, _ in kinds(taken(f"{relay.stream()}?cursor=3", 1, 30))], ["#sync"], "what went out")
+        same([kind for _, kind, _ in kinds(taken(f"{relay.stream()}?cursor=3", 1))], ["#sync"], "what went out")
         same(list((relay.folder / "repos").iterdir()), [], "the files that are left")
         account.commit()
         host.commit(account)
@@ -125,19 +127,21 @@ def lost_still(folder):
 
 @ROWS.row("old events are cut away")
 def window(folder):
+    """All are taken at once, since where there is a look at the window in the midst of them it is cut elsewhere."""
     scene = Scene(hosts=1, accounts=1)
     host, account = scene.hosts[0], scene.accounts()[0]
-    with Relay(folder / "window", scene.directory.address, [host.name], window={"keep_events": 10}) as relay:
-        for _ in range(20):
-            host.commit(account)
+    for _ in range(20):
+        host.commit(account)
+    at_once = {"messages": len(host.events), "interval": 5.0}
+    with Relay(folder / "window", scene.directory.address, [host.name], window={"keep_events": 10}, batch=at_once) as relay:
         relay.wait_until_taken(scene.sent())
         wait_for(lambda: "cut 13 oldest 14 last 23" in relay.words(), "a cut")
-        got = taken(f"{relay.stream()}?cursor=1", 11, 30)
+        got = taken(f"{relay.stream()}?cursor=1", 11)
         same(read(got[0])[1], {"name": "OutdatedCursor"}, "the notice")
         same([seq for seq, _, _ in kinds(got[1:])], list(range(14, 24)), "what is left")
         host.commit(account)
         relay.wait_until_taken(scene.sent())
-        same(read(taken(f"{relay.stream()}?cursor=23", 1, 30)[0])[1]["seq"], 24, "the next event")
+        same(read(taken(f"{relay.stream()}?cursor=23", 1)[0])[1]["seq"], 24, "the next event")
 
 
 @ROWS.row("events of some hours are kept, after a restart, too")

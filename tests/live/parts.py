@@ -3,6 +3,7 @@ import pathlib
 import random
 import subprocess
 import sys
+import time
 import tomllib
 
 from rows import Rows, expect, same
@@ -11,7 +12,7 @@ sys.path.insert(0, str(pathlib.Path(__file__).resolve().parents[2] / "tools"))
 import program  # noqa: E402
 from jupwachay.endings import Ended  # noqa: E402
 from jupwachay.live import configuration, events, hosts, report, statuses  # noqa: E402
-from live_tool import TOOL  # noqa: E402
+from live_tool import TOOL, WAIT  # noqa: E402
 
 ROWS = Rows()
 
@@ -53,6 +54,7 @@ def reports(_folder):
     same(dict(found.names()), {"Gap": 2, "NotCovered": 1, "BadSignature": 1}, "the refusals")
     same((found.ended, found.last), ({"c.example": "frame"}, 8), "the end")
     same(found.accepted, {("a.example", 1), ("b.example:2583", 4)}, "what was accepted")
+    same((found.old, len(found.told)), ({("a.example", 4)}, 6), "what was old, and what has lines")
     front = report.read("\n".join(lines[:4]).encode())
     same((front.is_whole(), front.cursors), (False, {"a.example": 1, "b.example:2583": 4}), "a front of it")
 
@@ -93,10 +95,12 @@ def turns(_folder):
 
 @ROWS.row("what a host may send is bounded")
 def allowances(_folder):
+    begun = time.monotonic()
     allowance = hosts.Allowance(100.0)
     waits = [allowance.take(10) for _ in range(40)]
+    passed = time.monotonic() - begun
     same(waits[:10], [0.0] * 10, "at once")
-    expect(1.5 < waits[-1] < 2.1, f"after what comes in two seconds it waits: {waits[-1]}")
+    expect(1.999 - passed < waits[-1] < 2.001, f"after what comes in two seconds it waits: {waits[-1]} after {passed} s")
 
 
 @ROWS.row("a configuration that can't be meant is refused")
@@ -130,7 +134,7 @@ def sample_configuration(_folder):
 def words(folder):
     for given in (["--no-such"], ["no-such-folder"], [str(folder), "--listen", "nowhere"], [str(folder), "--host", "a b"]):
         done = subprocess.run([sys.executable, TOOL, *(given if given[0].startswith(("/", "no")) else [str(folder), *given])],
-                              stdin=subprocess.DEVNULL, capture_output=True, text=True, check=False, timeout=60)
+                              stdin=subprocess.DEVNULL, capture_output=True, text=True, check=False, timeout=WAIT)
         same(done.returncode, 2, f"the status of {given}: {done.stderr}")
     done = subprocess.run([sys.executable, TOOL, folder, "status"], stdin=subprocess.DEVNULL, capture_output=True, text=True, check=False)
     same((done.returncode, "no live relay works" in done.stderr), (5, True), "a command where none runs")

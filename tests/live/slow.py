@@ -4,6 +4,7 @@ import os
 import pathlib
 import socket
 import sys
+import threading
 import time
 import urllib.parse
 
@@ -12,7 +13,7 @@ from rows import Rows, expect, same
 sys.path.insert(0, str(pathlib.Path(__file__).resolve().parents[1] / "clients"))
 from clients import Reader, read  # noqa: E402
 from frames import split  # noqa: E402
-from live_tool import Relay, wait_for  # noqa: E402
+from live_tool import WAIT, Relay, wait_for  # noqa: E402
 from scene import Scene  # noqa: E402
 
 ROWS = Rows()
@@ -32,10 +33,27 @@ def connected(relay: Relay, cursor: str = "") -> socket.socket:
     return peer
 
 
+class Reading:
+    """Reads all that comes of a peer once a consumer is told that it is too slow: it has ten seconds then, whatever else goes on."""
+
+    def __init__(self, relay: Relay, peer: socket.socket):
+        self.relay, self.peer, self.taken = relay, peer, b""
+        self.thread = threading.Thread(target=self.read, daemon=True)
+        self.thread.start()
+
+    def read(self) -> None:
+        wait_for(lambda: self.relay.metrics()["live_consumers_too_slow_total"] > 0, "a consumer is too slow")
+        self.taken = all_of(self.peer)
+
+    def all(self) -> bytes:
+        self.thread.join()
+        return self.taken
+
+
 def all_of(peer: socket.socket) -> bytes:
     """What comes up to the end of a connection."""
     taken = b""
-    peer.settimeout(60)
+    peer.settimeout(WAIT)
     try:
         while piece := peer.recv(1 << 16):
             taken += piece
@@ -55,12 +73,13 @@ def takes_nothing(folder):
         peer = connected(relay)
         wait_for(lambda: relay.metrics()["live_consumers"] == 2, "both are there")
         account.name = LONG_NAME  # its records have it
+        reading = Reading(relay, peer)
         while relay.metrics()["live_consumers_too_slow_total"] == 0:
             for _ in range(4):
                 host.commit(account, creates=10)
             relay.wait_until_taken(scene.sent())
             expect(len(host.events) < 300, "it was never too slow")
-        head, _, stream = all_of(peer).partition(b"\r\n\r\n")
+        head, _, stream = reading.all().partition(b"\r\n\r\n")
         expect(head.startswith(b"HTTP/1.1 101 "), f"the handshake: {head}")
         messages = [payload for name, payload in split(stream) if name == "message"]
         header, payload = read(messages[-1])
@@ -109,5 +128,5 @@ def odd_peers(folder):
 
 
 def all_of_head(peer: socket.socket) -> bytes:
-    peer.settimeout(60)
+    peer.settimeout(WAIT)
     return peer.recv(4096)

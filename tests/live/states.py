@@ -15,12 +15,15 @@ from scene import P256, Scene
 
 ROWS = Rows()
 STAND_IN = """#!/bin/sh
-# Runs the relay, unless the next line of the file `next` beside it has this run's word: it ends with that line's status then.
+# Runs the relay, unless the next line of the file `next` beside it has this run's word: it ends with that line's status then; with
+# `untold` it runs the relay first, of whose report nobody hears. A line with a third word waits until the file `go` is there.
 room=$(dirname "$0")
 echo "$2 $(stat -L -c %s /proc/self/fd/0 2>/dev/null)" >> "$room/runs"
-if [ -s "$room/next" ] && read -r word status < "$room/next" && [ "$word" = "$2" ]; then
+if [ -s "$room/next" ] && read -r word status held < "$room/next" && [ "$word" = "$2" ]; then
     sed -i 1d "$room/next"
-    [ "$status" = kill ] && kill -9 $$
+    while [ -n "$held" ] && [ -e "$room/next" ] && ! [ -e "$room/go" ]; do sleep 0.05; done
+    [ "$status" = untold ] && REAL "$@" > /dev/null
+    [ "$status" = kill ] || [ "$status" = untold ] && kill -9 $$
     echo "relay: made to end so" >&2
     exit "$status"
 fi
@@ -33,6 +36,7 @@ class StandIn:
 
     def __init__(self, room: pathlib.Path):
         self.path, self.next, self.runs = room / "stand-in", room / "next", room / "runs"
+        self.go = room / "go"
         self.path.write_text(STAND_IN.replace("REAL", str(program.built("relay_cli"))))
         self.path.chmod(0o755)
 
@@ -70,9 +74,10 @@ class Tried:
         self.reader.stop()
 
     def goes_on(self, many: int = 1) -> None:
-        """More is sent, all of it is taken, and the consumer gets it once."""
-        for _ in range(many):
-            self.host.commit(self.account)
+        """More is sent, all at once, all of it is taken, and the consumer gets it once."""
+        with self.host.news:
+            for _ in range(many):
+                self.host.commit(self.account)
         self.relay.wait_until_taken(self.scene.sent())
         wait_for(lambda: self.reader.cursor == len(self.host.events) or self.relay.child.poll() is not None, "the consumer has all")
         same(self.reader.numbers, list(range(1, len(self.host.events) + 1)), "what the consumer got")
@@ -88,11 +93,12 @@ def failing_a_while(status: int):
     """It says so, goes on trying, and loses nothing."""
     def row(folder):
         with Tried(folder, batch={"longest_pause": 2.0}) as tried:
-            tried.stand_in.tell(*[f"ingest {status}"] * 3)
+            tried.stand_in.tell(*[f"ingest {status}"] * 2, f"ingest {status} held")
             tried.host.commit(tried.account)
             wait_for(lambda: tried.relay.get("/xrpc/_health")[0] == 503, "its health is bad")
             said = json.loads(tried.relay.get("/xrpc/_health")[1])
-            expect("message" not in said or f"status {status} (relay: made to end so)" in said["message"], f"its health: {said}")
+            expect(f"status {status} (relay: made to end so)" in said["message"], f"its health: {said}")
+            tried.stand_in.go.touch()
             tried.goes_on(2)
             same(tried.relay.get("/xrpc/_health")[0], 200, "its health at last")
             expect(f"status {status} (relay: made to end so)" in tried.relay.words(), f"its words: {tried.relay.words()}")
@@ -159,6 +165,67 @@ def killed(folder):
     with Tried(folder) as tried:
         tried.stand_in.tell("ingest kill", "ingest kill")
         tried.goes_on()
+
+
+@ROWS.row("an account that was lost by a run of which nobody heard is brought back")
+def lost_untold(folder):
+    with Tried(folder) as tried:
+        tried.stand_in.tell("ingest untold")
+        gap(tried)
+        is_back(tried)
+
+
+@ROWS.row("an account that was lost by a batch that a killed tool left is brought back")
+def lost_on_a_tape(folder):
+    with Tried(folder) as tried:
+        tried.stand_in.tell("ingest untold held")
+        gap(tried)
+        wait_for(lambda: not tried.stand_in.is_told(), "the run begins")
+        tried.relay.child.send_signal(signal.SIGKILL)
+        tried.relay.child.wait()
+        tried.stand_in.go.touch()
+        tried.relay.start()
+        is_back(tried)
+
+
+@ROWS.row("an account that was lost by a run that a signal cut off is brought back")
+def lost_at_the_end(folder):
+    with Tried(folder) as tried:
+        tried.stand_in.tell("ingest untold held")
+        gap(tried)
+        wait_for(lambda: not tried.stand_in.is_told(), "the run begins")
+        tried.relay.child.send_signal(signal.SIGTERM)
+        tried.stand_in.go.touch()
+        same(tried.relay.ended(), 0, "its end")
+        tried.relay.start()
+        is_back(tried)
+
+
+@ROWS.row("a repository that was taken over by a run of which nobody heard reaches consumers")
+def taken_over_untold(folder):
+    with Tried(folder) as tried:
+        tried.stand_in.tell("sync untold")
+        gap(tried)
+        has_records(tried)
+        same(tried.stand_in.is_told(), False, "whether it had to end so")
+
+
+def gap(tried: Tried) -> None:
+    """The host sends a commit that doesn't follow on the former one that it sent."""
+    tried.account.commit()
+    tried.host.commit(tried.account)
+
+
+def has_records(tried: Tried) -> None:
+    """The consumer has the account's records, though nothing more is sent of it."""
+    tried.relay.wait_until_taken(tried.scene.sent())
+    wait_for(lambda: tried.reader.consumer.held(tried.account.did) == tried.account.records, "the consumer has the account's records")
+
+
+def is_back(tried: Tried) -> None:
+    """It has, since the relay took over the account's repository."""
+    has_records(tried)
+    same(tried.relay.metrics()["live_accounts_back_total"], 1, "the accounts that are back")
 
 
 @ROWS.row("a table that is damaged is written anew with the operator's lines")

@@ -12,6 +12,7 @@ from trees import view  # noqa: E402
 
 STREAM = "ws://127.0.0.1:2470/xrpc/com.atproto.sync.subscribeRepos"
 GONE = (b"takendown", b"deleted")
+PATIENCE = 300  # seconds for a repository; a busy machine is slow
 
 
 class Consumer:
@@ -54,7 +55,7 @@ class Consumer:
     def fetch(self, did: str) -> None:
         """Takes an account's whole repository from its home."""
         address = f"http://{self.homes[did]}/xrpc/com.atproto.sync.getRepo?did={did.replace('%', '%25')}"
-        with urllib.request.urlopen(address, timeout=20) as answer:
+        with urllib.request.urlopen(address, timeout=PATIENCE) as answer:
             roots, blocks = car(answer.read())
         head = commit_object(blocks[roots[0]])
         self.records[did] = {key.decode(): (value, blocks[value]) for key, value in view(blocks, head["data"], is_whole=True)}
@@ -69,8 +70,8 @@ class Consumer:
                 self.records.pop(did, None)
                 self.revs.pop(did, None)
         elif did in self.inactive:
-            self.inactive.discard(did)
             self.fetch(did)
+            self.inactive.discard(did)
 
     def held(self, did: str) -> dict:
         """The blocks of an account's records."""

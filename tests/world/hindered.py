@@ -112,7 +112,7 @@ def progress(world: World):
     """Each tool says on a terminal how far it is."""
     host, folder, tape = world.hosts[0], world.copy("terminal"), world.room / "terminal-tape"
     words = ("--plain", "--plc", world.directory.address)
-    status, said = on_a_terminal("record", host.name, tape, "--plain", "--cursor", host.first, "--seconds", 4)
+    status, said = on_a_terminal("record", host.name, tape, "--plain", "--cursor", host.first, "--seconds", 8)
     yield "record on a terminal", (status, f"record: {len(host.events) - host.first} messages, " in said), (0, True)
     status, said = on_a_terminal("vouch", folder, tape, *words)
     yield "vouch on a terminal", (status, " accounts, " in said, "\r" in said), (0, True, True)
@@ -130,8 +130,8 @@ def limits(world: World, host: Host, tape: pathlib.Path):
     size = len(tape_of(host, 0, count))
     yield "a limit of bytes", (got[:2], size - len(sent) // 2 < 10_000), ((0, f"end {count} bytes {size} cursor {count} place {size}\n"), True)
     begun = time.monotonic()
-    got = tool("record", host.name, tape, "--plain", "--seconds", 2)
-    yield "a limit of seconds", (got[0], tape.read_bytes() == sent, 1.5 < time.monotonic() - begun < 60), (0, True, True)
+    got = tool("record", host.name, tape, "--plain", "--seconds", 6)
+    yield "a limit of seconds", (got[0], tape.read_bytes() == sent, 5.5 < time.monotonic() - begun < 60), (0, True, True)
     for name in (signal.SIGTERM, signal.SIGINT, signal.SIGHUP):
         tape.unlink()
         with started("record", host.name, tape, "--plain", "--cursor", "0") as child:
@@ -216,9 +216,9 @@ def vouching(world: World):
     got = tool("vouch", fresh, *[word for did in nobody for word in ("--did", did)])
     yield "accounts that nobody is asked for", [line.split(" ", 2)[2] for line in got[1].splitlines() if line.startswith("unknown ")], [
         "127.0.0.1 isn't public: its address is 127.0.0.1", "its DID is of another method", *3 * ["its DID names no host alone"]]
-    world.directory.is_slow = True
+    world.directory.slowness = 0.1
     got = tool("vouch", fresh, "--did", world.bob.did, "--plain", "--plc", world.directory.address, "--patience", 0.5)
-    world.directory.is_slow = False
+    world.directory.slowness = 0.0
     yield "a directory that is slow", (got[0], "took more than 0.5 seconds" in got[1]), (FAILED, True)
     dids = [word for account in world.by_directory()[2:7] for word in ("--did", account.did)]
     before, world.directory.failing = sum(world.directory.asked.values()), 1000
@@ -355,9 +355,9 @@ def fetching(world: World):
     got = tool("repositories", folder, *words)
     host.more = 0
     yield "a repository that breaks off", (got[0], f"{host.name} broke off" in got[1]), (FAILED, True)
-    host.is_slow = True
+    host.slowness = 0.1
     got = tool("repositories", folder, *words, "--patience", 0.5)
-    host.is_slow = False
+    host.slowness = 0.0
     yield "a repository that takes too long", (got[0], "took more than 0.5 seconds" in got[1]), (FAILED, True)
     before = contents(folder / "repos")
     got = tool("repositories", folder, *words, **small_files(16))

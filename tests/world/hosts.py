@@ -58,10 +58,10 @@ class Asked(http.server.BaseHTTPRequestHandler):
         self.send_header("Content-Type", kind)
         self.send_header("Content-Length", str(len(content) if size is None else size))
         self.end_headers()
-        if self.server.owner.is_slow:
-            for byte in content:
-                self.wfile.write(bytes([byte]))
-                time.sleep(0.1)
+        slowness = self.server.owner.slowness
+        for byte in content if slowness else b"":
+            self.wfile.write(bytes([byte]))
+            time.sleep(slowness)
         self.wfile.write(content)
         self.close_connection = size is not None
 
@@ -80,7 +80,7 @@ class Directory:
     """A PLC directory: the operations of each account, in their order, without their own signatures."""
 
     def __init__(self, context: "ssl.SSLContext | None" = None):
-        self.operations, self.asked, self.failing, self.is_slow = [], {}, 0, False
+        self.operations, self.asked, self.failing, self.slowness = [], {}, 0, 0.0  # seconds for each byte
         self.server = Server(self, context)
         self.address = f"{self.server.scheme}://{self.server.name()}"
 
@@ -127,7 +127,7 @@ class Host:
 
     def __init__(self, context: "ssl.SSLContext | None" = None):
         self.accounts, self.events, self.first = {}, [], 1
-        self.repositories, self.web, self.is_slow, self.more = {}, None, False, 0
+        self.repositories, self.web, self.slowness, self.more = {}, None, 0.0, 0
         self.delay, self.busy, self.busiest = 0.0, 0, 0
         self.breaks, self.farewell, self.pause, self.longest, self.streams = [], b"", 0.0, None, 0
         self.news = threading.Condition()

@@ -46,7 +46,9 @@ class Carrier:
         self.last: Optional[int] = None  # the last number, by the last report, where that is whole
         self.is_behind = False  # whether there are events that consumers can't be sent yet
         self.make_room: "Callable[[], asyncio.Future]" = no_room
-        self.lose: "Callable[[str, Optional[str]], None]" = lambda _did, _rev: None
+        self.lose: "Callable[[str, Optional[str], bool], None]" = lambda _did, _rev, _is_doubtful: None
+        self.keep_lost: "Callable[[], None]" = lambda: None
+        self.untold: "dict[tuple[str, int], tuple[str, Optional[str]]]" = {}  # events that were in a run, and in no report: whose, its revision
         self.restart: "Callable[[str], asyncio.Future]" = no_room
         self.observe: "Callable[[float], None]" = lambda _seconds: None
 
@@ -140,7 +142,9 @@ class Carrier:
             self.last = found.last
             if found.last is None or found.last > self.tail.last:
                 await self.grow()
-        tape.unlink(missing_ok=True)
+        self.see_lost(messages, found)
+        if found.is_whole():
+            tape.unlink(missing_ok=True)  # not before it is kept which accounts are lost by it
         await self.account_for(messages, found)
         return done
 
@@ -163,8 +167,28 @@ class Carrier:
             self.carried.fault = str(why)
             say(str(why))
 
+    def see_lost(self, messages: "list[Message]", found: report.Report) -> None:
+        """Keeps which accounts are lost by messages. One that is `old` may have been refused by a run that ended before it said so."""
+        doubtful = found.old & self.untold.keys()
+        named = doubtful | {(each.host, each.seq) for each in found.refused if each.is_lost}
+        events = {(message.host, message.seq): message.event for message in messages if message.event}
+        for place, event in events.items():
+            if place in named:
+                self.lose(event.did, event.rev, place in doubtful)
+            if place in found.told:
+                self.untold.pop(place, None)
+            elif not found.is_whole():
+                self.untold[place] = event.did, event.rev
+        if named:
+            self.keep_lost()
+
+    def lose_untold(self) -> None:
+        """Has the accounts looked at whose events were in a run that failed, and are in no other one any more."""
+        for did, rev in self.untold.values():
+            self.lose(did, rev, True)
+
     async def account_for(self, messages: "list[Message]", found: report.Report) -> None:
-        """Keeps what came of messages: where the journal is with hosts, which accounts are lost, and who has to be asked anew."""
+        """Keeps what came of messages: where the journal is with hosts, what was refused, and who has to be asked anew."""
         self.hosts.taken(found.cursors)
         self.carried.lines.update(found.lines)
         self.carried.refused.update(found.names())
@@ -174,8 +198,6 @@ class Carrier:
             if event is None:
                 continue
             self.carried.recent_refused = [*self.carried.recent_refused, (time.time(), each, event.did)][-20:]
-            if each.is_lost:
-                self.lose(event.did, event.rev)
         if found.is_whole():
             self.carried.batches += 1
             self.carried.messages += len(messages)

@@ -7,8 +7,11 @@ import pathlib
 import time
 from typing import Optional
 
-from jupwachay import files, names, repositories, vouching
+from jupwachay import files, names, repositories, tapes, vouching
 from jupwachay.commits import commit_of
+from jupwachay.endings import Ended
+from jupwachay.frames import event
+from jupwachay.items import Unread
 from jupwachay.live.authorities import Tables
 from jupwachay.live.configuration import Repositories
 from jupwachay.live.runs import Runs
@@ -29,6 +32,7 @@ class Lost:
         self.did, self.rev = did, rev  # the highest revision of its commits that were refused
         self.since, self.next, self.failures, self.why = time.time(), time.monotonic(), 0, ""
         self.is_tried = self.is_wanted = False  # wanted by an operator, lost or not
+        self.is_doubtful = False  # whether the relay has to be asked first if it is lost
 
 
 class NotBack(Exception):
@@ -62,14 +66,25 @@ class Finder:
                 if names.is_did(did):
                     self.lost[did] = Lost(did, rev or None)
 
-    def lose(self, did: str, rev: Optional[str]) -> None:
-        """Keeps that an account is lost, by a commit of this revision."""
+    def lose(self, did: str, rev: Optional[str], is_doubtful: bool = False) -> None:
+        """Has an account brought back that is lost, by a commit of this revision, or that may be."""
         found = self.lost.get(did)
         if found is None:
-            self.lost[did] = Lost(did, rev)
+            found = self.lost[did] = Lost(did, rev)
+            found.is_doubtful = is_doubtful
             self.news.set()
         elif rev is not None:
             found.rev = max(rev, found.rev or rev)
+        found.is_doubtful &= is_doubtful
+
+    def lose_left(self, tape: pathlib.Path) -> None:
+        """Has the accounts looked at of a tape that was left: nobody has read the report that says whose commits on it were refused."""
+        with contextlib.suppress(OSError, Ended):
+            for _, message in tapes.records(tape, say):
+                with contextlib.suppress(Unread):
+                    found = event(message)
+                    self.lose(found.did, found.rev, is_doubtful=True)
+            self.keep()
 
     def keep(self) -> None:
         """Keeps on the disk which accounts are lost."""
@@ -116,6 +131,10 @@ class Finder:
         """Tries once to bring an account back, and gives the relay's line; where it fails, the next try comes after a longer pause."""
         path = self.fetcher.new_path(each.did)
         try:
+            if each.is_doubtful and not each.is_wanted and not await self.is_lost(each.did):
+                self.lost.pop(each.did, None)
+                return "it isn't lost"
+            each.is_doubtful = False
             loop = asyncio.get_running_loop()
             good = await loop.run_in_executor(self.pool, self.fetch, each, path)
             line = await self.take_over(each, path, good)
@@ -164,12 +183,21 @@ class Finder:
             unfit = repositories.unfit(each.did, good.commits[0], each.rev)
             if unfit:
                 raise NotBack(unfit)
-            told = await self.runs.run("account", each.did)
-            if told.status != 0:
-                raise NotBack(told.sentence())
-            if told.out.split()[4:5] == [b"lost"] or each.is_wanted:
+            if await self.is_lost_now(each.did) or each.is_wanted:
                 return await self.sync(each.did, path, good)
+            await self.tail.grow(None)  # by a run that was killed once it had taken the repository over, maybe
             return "it isn't lost any more"
+
+    async def is_lost(self, did: str) -> bool:
+        async with self.runs.turn:
+            return await self.is_lost_now(did)
+
+    async def is_lost_now(self, did: str) -> bool:
+        """Whether the relay has an account as lost. Who calls it holds the turn of the runs."""
+        told = await self.runs.run("account", did)
+        if told.status != 0:
+            raise NotBack(told.sentence())
+        return told.out.split()[4:5] == [b"lost"]
 
     async def sync(self, did: str, path: pathlib.Path, good: Good) -> str:
         self.tables.write(good)

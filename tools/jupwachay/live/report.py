@@ -26,6 +26,8 @@ class Report:
         self.cursors: dict[str, int] = {}  # each host's last number that was taken
         self.ended: dict[str, str] = {}  # hosts of which further messages were passed over, with the reason
         self.accepted: set[tuple[str, int]] = set()  # the host and the number of each message that was accepted
+        self.old: set[tuple[str, int]] = set()  # of each that was taken before
+        self.told: set[tuple[str, int]] = set()  # of each that has a line
         self.refused: list[Refused] = []
         self.lines: Counter = Counter()  # by the word of the line: event, held, refused, old, info, unknown, ended, after
         self.last: Optional[int] = None  # the last number, where the report is whole
@@ -53,10 +55,13 @@ class Report:
         seq, (word, _, detail) = int(first), rest.partition(" ")
         self.lines[word] += 1
         self.cursors[host] = max(seq, self.cursors.get(host, 0))
+        self.told.add((host, seq))
         if word == "refused":
             self.refuse(host, seq, detail)
         elif word in ("event", "held"):
             self.accepted.add((host, seq))
+        elif word == "old":
+            self.old.add((host, seq))
 
     def refuse(self, host: str, seq: int, detail: str) -> None:
         found = REFUSED.fullmatch(detail)

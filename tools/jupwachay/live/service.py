@@ -10,11 +10,12 @@ from typing import Optional
 
 from aiohttp import web
 
+from jupwachay import repositories
 from jupwachay.addresses import Reach
 from jupwachay.endings import DISK, Ended
 from jupwachay.live import commands, operation, statuses
 from jupwachay.live.authorities import Tables
-from jupwachay.live.carrier import Carrier, remove_leftovers
+from jupwachay.live.carrier import TAPE, Carrier, remove_leftovers
 from jupwachay.live.configuration import Configuration
 from jupwachay.live.consumers import Consumers
 from jupwachay.live.hosts import Hosts
@@ -56,7 +57,8 @@ class Live:
         self.consumers = Consumers(self.tail, words.consumers)
         self.carrier = Carrier(folder, words.batch, self.runs, self.hosts, self.vouching, self.tables, self.tail)
         self.metrics = Metrics(self)
-        self.carrier.make_room, self.carrier.lose, self.carrier.restart = self.window.make_room, self.finder.lose, self.restart
+        self.carrier.make_room, self.carrier.restart = self.window.make_room, self.restart
+        self.carrier.lose, self.carrier.keep_lost = self.finder.lose, self.finder.keep
         self.carrier.observe = self.metrics.batch_seconds.observe
         self.runs.changed = self.queries.change
         self.door = Door(folder, commands.of(self))
@@ -97,12 +99,13 @@ class Live:
     async def begin(self) -> None:
         """Reads where the journal is."""
         self.runs.kept_open = (await locked(self.folder),)
+        self.finder.begin()
+        self.finder.lose_left(self.folder / TAPE)
         remove_leftovers(self.folder)
         self.tables.read()
         self.tail.begin(int((await self.done("ingest")).out.split()[-1]))
         lines = [line.split(" ") for line in (await self.done("hosts")).out.decode().splitlines()]
         self.hosts.begin({host: int(cursor) for host, cursor in lines[:-1]})
-        self.finder.begin()
         self.window.begin()
 
     async def open(self) -> web.AppRunner:
@@ -152,7 +155,8 @@ class Live:
         say("stopping")
         await self.intake.stop()
         self.vouching.stop()
-        self.finder.stop()
+        if self.runs.kept_open:  # else another live relay works on the folder
+            self.finder.stop()
         await self.runs.stop(SECONDS_TO_END_A_RUN)
         for task in tasks:
             task.cancel()
@@ -163,7 +167,9 @@ class Live:
         if runner:
             await runner.cleanup()
         if self.runs.kept_open:
-            remove_leftovers(self.folder)
+            self.carrier.lose_untold()
+            self.finder.keep()
+            repositories.remove_begun(self.folder)
 
 
 async def locked(folder: pathlib.Path) -> int:
