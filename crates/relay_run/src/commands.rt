@@ -23,8 +23,8 @@ use at_authority::Judges;
 use at_cid::ghost_text;
 use relay_disk::Disk;
 use relay_io::{Clock, Repos, Sink};
-use run_base::{Outside, Seen, Status};
 use report_lines::{account_line, host_lines};
+use run_base::{Outside, Seen, Status};
 use std::alloc::Global;
 
 /// The commands on the journal of two disks that an operator gives. Each opens the store, does its work and writes what came of it. No row

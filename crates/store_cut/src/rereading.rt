@@ -23,8 +23,8 @@ use gate_log::Log;
 use relay_core::Core;
 use relay_disk::Disk;
 use relay_row::Row;
-use row_codec::{RowFault, read_rows};
 use relay_store::{StoreFault, read_body};
+use row_codec::{RowFault, read_rows};
 use std::alloc::Global;
 use std::collections::VecDeque;
 

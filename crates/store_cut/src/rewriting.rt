@@ -17,8 +17,8 @@ use gate_log::Build;
 use relay_core::Core;
 use relay_disk::Disk;
 use relay_row::Row;
-use row_codec::write_row;
 use relay_store::{StoreFault, learn_row};
+use row_codec::write_row;
 use std::collections::VecDeque;
 
 /// A journal that is being written anew: the log, which is built behind a closed gate, and what is known of its rows.

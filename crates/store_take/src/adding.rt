@@ -14,8 +14,8 @@ use event_window::Window;
 use gate_log::{AHEAD, AROUND_BODY, BEFORE_BODY, BODY_LENGTHS, Log};
 use relay_core::Core;
 use relay_row::{NewRow, Row};
-use row_codec::{write_new_row, write_row};
 use relay_store::{Pending, StoreFault, learn_row, list_front_len};
+use row_codec::{write_new_row, write_row};
 use std::alloc::Global;
 
 // Where the row that stands in a pending batch from a place on would end as a body of its own behind the rows before it.
