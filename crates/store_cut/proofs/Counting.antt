@@ -1,6 +1,14 @@
 -- What counts of two disks say of a call, by those of the calls that it makes.
-use Rattle.std.proofs.Common.{◌≡◌, ◌≤◌, ℕ, inl, inr, arith, subst}
+use Rattle.std.proofs.Common.{◌≡◌, ◌≤◌, ℕ, Result, Ok, Err, inl, inr, ap, arith, subst}
 use Rattle.at_cid.specs.Counts.{CountedPair, Rose}
+
+fault_or : {A E : Type 0} → E → Result A E → E
+fault_or other (Ok x) = other
+fault_or other (Err e) = e
+
+-- a call that answers otherwise fails with the same fault
+pub fails_as : (A B E : Type 0) (e f : E) → Err {A} {E} e ≡ Err f → Err {B} {E} e ≡ Err f
+fails_as A B E e f is = ap (λ (x : E). Err {B} {E} x) (ap (fault_or {A} f) is)
 
 -- a call to the first disk came last, and the other one stands
 pub counted_one : (failed : Type 0) (one two one_now two_now : ℕ) → two_now ≡ two → (failed → Rose one one_now) → ((failed → ⊥) → one_now ≡ one) → one ≤ one_now → CountedPair failed one two one_now two_now

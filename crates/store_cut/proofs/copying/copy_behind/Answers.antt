@@ -9,7 +9,7 @@ use Rattle.relay_row.specs.declared.row.Row.{Row}
 use Rattle.relay_store.specs.Journals.{AllBodies, bytes_of, joined}
 use Rattle.store_cut.specs.Rewriting.{AllShort, RewriteHasNoRoom}
 use Rattle.relay_store.specs.declared.fault.StoreFault.{StoreFault}
-use Rattle.store_cut.proofs.Counting.{counted_behind, counted_none, counted_one, counted_two}
+use Rattle.store_cut.proofs.Counting.{counted_behind, counted_none, counted_one, counted_two, fails_as}
 use Rattle.store_cut.proofs.Ordering.{formed_dropped}
 use Rattle.store_cut.proofs.Recopied.{drop_least, next_there, some_more}
 use Rattle.store_cut.proofs.Rewritten.{copied_both, no_room_behind, no_room_front, on_ok_as, reading_is}
@@ -119,7 +119,7 @@ returns-clause-no_bad_log g c = λ p is tells before there after each held here 
 pub returns-in_err-rows-clause-counts : goal.returns-in_err-rows-clause-counts
 returns-in_err-rows-clause-counts g c =
     let is : c.from_residual.result ≡ Err c.in_err-rows.field-0.0 = search rules in
-    counted_one _ _ _ _ _ refl (λ failed. c.in_err-rows.ensures.disk (sym is ∙ failed)) (λ not. c.in_err-rows.ensures.no_fault (λ e. not (is ∙ e))) c.body_at.ensures.goes.counts
+    counted_one _ _ _ _ _ refl (λ failed. c.in_err-rows.ensures.disk (fails_as _ _ _ _ _ (sym is ∙ failed))) (λ not. c.in_err-rows.ensures.no_fault (λ e. not (is ∙ fails_as _ _ _ _ _ e))) c.body_at.ensures.goes.counts
 
 pub returns-in_default-clause-counts : goal.returns-in_default-clause-counts
 returns-in_default-clause-counts g c = counted_none _ _ _ _ _ (λ e. absurd cc) c.in_ok-rows.ensures.steady refl

@@ -7,7 +7,7 @@ use Rattle.relay_store.specs.Journals.{AllBodies, bytes_of}
 use Rattle.relay_store.specs.Journals.{joined as rows_of}
 use Rattle.store_cut.specs.Rewriting.{RewriteHasNoRoom}
 use Rattle.relay_store.specs.declared.fault.StoreFault.{StoreFault}
-use Rattle.store_cut.proofs.Counting.{counted_behind, counted_none, counted_one, counted_two}
+use Rattle.store_cut.proofs.Counting.{counted_behind, counted_none, counted_one, counted_two, fails_as}
 use Rattle.store_cut.proofs.Recopied.{IsRecopied, recopied_all, recopied_more, recopied_none, recopied_rows, recopied_split, recopied_there, some_more}
 use Rattle.store_cut.proofs.Rewritten.{copied_both, copied_none, no_room_behind, no_room_front, reading_is}
 use Rattle.relay_store.proofs.InBodies.{each_at}
@@ -135,7 +135,7 @@ pub returns-in_err-rows-clause-counts : goal.returns-in_err-rows-clause-counts
 returns-in_err-rows-clause-counts g c =
     let is : c.from_residual.result ≡ Err c.in_err-rows.field-0.0 = search rules in
     counted_behind _ _ _ _ _ _ _ c.bodies.invariant.steady c.bodies.invariant.copied.steady
-    (counted_one _ _ _ _ _ refl (λ failed. c.in_err-rows.ensures.disk (sym is ∙ failed)) (λ not. c.in_err-rows.ensures.no_fault (λ e. not (is ∙ e))) c.body_at.ensures.goes.counts)
+    (counted_one _ _ _ _ _ refl (λ failed. c.in_err-rows.ensures.disk (fails_as _ _ _ _ _ (sym is ∙ failed))) (λ not. c.in_err-rows.ensures.no_fault (λ e. not (is ∙ fails_as _ _ _ _ _ e))) c.body_at.ensures.goes.counts)
 
 pub returns-in_err-put_rows-clause-counts : goal.returns-in_err-put_rows-clause-counts
 returns-in_err-put_rows-clause-counts g c =

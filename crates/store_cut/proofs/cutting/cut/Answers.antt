@@ -8,6 +8,7 @@ use Rattle.relay_row.specs.Folds.{last_seq}
 use Rattle.cut_law.specs.Cut.{cut}
 use Rattle.store_cut.specs.Cutting.{IsUncut}
 use Rattle.relay_store.specs.declared.fault.StoreFault.{StoreFault}
+use Rattle.store_cut.proofs.Counting.{fails_as}
 use Rattle.store_cut.proofs.CutFronts.{kept_none}
 use Rattle.store_cut.proofs.CutPairs.{may_at, still_keeps, still_pair}
 use Rattle.relay_store.proofs.Reread.{last_fits, oldest_is, window_rises}
@@ -200,7 +201,7 @@ returns-in-Err-Disk-clause-disk g c = λ is.
     c.write_anew.ensures.counts.rose failed
 
 pub returns-in-Err-clause-disk : goal.returns-in-Err-clause-disk
-returns-in-Err-clause-disk g c = λ is. c.in-Err.ensures.counts.rose is
+returns-in-Err-clause-disk g c = λ is. c.in-Err.ensures.counts.rose (fails_as _ _ _ _ _ is)
 
 pub returns-in-Err-clause-steady : goal.returns-in-Err-clause-steady
-returns-in-Err-clause-steady g c = λ not. c.in-Err.ensures.counts.steady not
+returns-in-Err-clause-steady g c = λ not. c.in-Err.ensures.counts.steady (λ e. not (fails_as _ _ _ _ _ e))

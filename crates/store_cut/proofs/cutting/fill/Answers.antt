@@ -14,7 +14,7 @@ use Rattle.relay_store.specs.Journals.{joined as rows_of}
 use Rattle.store_cut.specs.Rewriting.{RewriteHasNoRoom}
 use Rattle.relay_store.specs.declared.fault.StoreFault.{StoreFault}
 use Rattle.store_cut.proofs.Carried.{cut_is}
-use Rattle.store_cut.proofs.Counting.{counted_behind, counted_one, counted_two}
+use Rattle.store_cut.proofs.Counting.{counted_behind, counted_one, counted_two, fails_as}
 use Rattle.store_cut.proofs.CutFronts.{kept_at}
 use Rattle.store_cut.proofs.Rewritten.{adding_is, copied_both, no_room_behind, no_room_front, on_ok_as, reading_is}
 use Rattle.store_cut.proofs.cutting.fill.Goals as goal
@@ -126,7 +126,7 @@ returns-clause-known g c = on_ok_as c.copy_behind.result (λ known empty.
 pub returns-in_err-front-clause-counts : goal.returns-in_err-front-clause-counts
 returns-in_err-front-clause-counts g c =
     let is : c.from_residual.result ≡ Err c.in_err-front.field-0.0 = search rules in
-    counted_one _ _ _ _ _ refl (λ failed. c.in_err-front.ensures.disk (sym is ∙ failed)) (λ not. c.in_err-front.ensures.no_fault (λ e. not (is ∙ e))) c.fold_upto.ensures.goes.counts
+    counted_one _ _ _ _ _ refl (λ failed. c.in_err-front.ensures.disk (fails_as _ _ _ _ _ (sym is ∙ failed))) (λ not. c.in_err-front.ensures.no_fault (λ e. not (is ∙ fails_as _ _ _ _ _ e))) c.fold_upto.ensures.goes.counts
 
 pub returns-in_err-carry-clause-counts : goal.returns-in_err-carry-clause-counts
 returns-in_err-carry-clause-counts g c =

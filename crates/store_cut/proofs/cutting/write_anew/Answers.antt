@@ -9,7 +9,7 @@ use Rattle.cut_law.specs.Cut.{cut}
 use Rattle.relay_store.specs.Journals.{bytes_of}
 use Rattle.store_cut.specs.Rewriting.{RewriteHasNoRoom, singles}
 use Rattle.relay_store.specs.declared.fault.StoreFault.{StoreFault}
-use Rattle.store_cut.proofs.Counting.{counted_as, counted_behind, counted_none, counted_two}
+use Rattle.store_cut.proofs.Counting.{counted_as, counted_behind, counted_none, counted_two, fails_as}
 use Rattle.store_cut.proofs.CutPairs.{begun_run, bodies_at, built, closed_run, cut_some, few_bad, few_full, few_is, finished_run, kept_cut, live_closed, live_now, on_err_by, pair_moments}
 use Rattle.store_cut.proofs.KeptNumbers.{copied_numbers}
 use Rattle.store_cut.proofs.cutting.write_anew.Goals as goal
@@ -177,13 +177,13 @@ returns-in-Ok-clause-anew g c =
 pub returns-in_err-rewrite-clause-counts : goal.returns-in_err-rewrite-clause-counts
 returns-in_err-rewrite-clause-counts g c =
     let is : c.from_residual.result ≡ Err c.in_err-rewrite.field-0.0 = search rules in
-    counted_two _ _ _ _ _ refl (λ failed. c.in_err-rewrite.ensures.disk (sym is ∙ failed)) (λ not. c.in_err-rewrite.ensures.no_fault (λ e. not (is ∙ e))) c.begin.ensures.counts
+    counted_two _ _ _ _ _ refl (λ failed. c.in_err-rewrite.ensures.disk (fails_as _ _ _ _ _ (sym is ∙ failed))) (λ not. c.in_err-rewrite.ensures.no_fault (λ e. not (is ∙ fails_as _ _ _ _ _ e))) c.begin.ensures.counts
 
 pub returns-in_err-fill-clause-counts : goal.returns-in_err-fill-clause-counts
 returns-in_err-fill-clause-counts g c =
     let is : c.from_residual-in_err-fill.result ≡ Err c.in_err-fill.field-0.0 = search rules in
     counted_behind _ _ _ _ _ _ _ refl c.in_ok-rewrite.ensures.steady
-    (counted_as _ _ _ _ _ _ (λ failed. sym is ∙ failed) (λ e. is ∙ e) c.in_err-fill.ensures.counts)
+    (counted_as _ _ _ _ _ _ (λ failed. fails_as _ _ _ _ _ (sym is ∙ failed)) (λ e. is ∙ fails_as _ _ _ _ _ e) c.in_err-fill.ensures.counts)
 
 pub returns-then-not-has_kept-clause-counts : goal.returns-then-not-has_kept-clause-counts
 returns-then-not-has_kept-clause-counts g c =
