@@ -57,7 +57,7 @@ begun merge v J one two first second image keeps opened moments none =
     let pair : IsPairImageOf J [] [] = subst (λ (c : List ℕ). IsPairImageOf J c []) first (subst (λ (c : List ℕ). IsPairImageOf J one c) second image) in
     record {
       steps = [];
-      taken = record { are_sent = refl; are = λ checks opens links. tt; accepted = tt };
+      taken = record { are_sent = refl; are = λ checks opens links. tt; unrefused = tt };
       strings = tt;
       none_ended = refl;
       keeps = subst (λ (K : List Row). Keeps K (seen_in merge.store) v) (empty_journal J pair) keeps;
@@ -70,7 +70,7 @@ begun merge v J one two first second image keeps opened moments none =
 
 ran : (sent : Sent) (steps : List Step) → AreTaken sent steps → IsRunOf sent (rows steps)
 ran sent steps taken = λ checks opens links.
-    subst (λ (l : List Message). RunIn checks trusting [] l (rows steps)) (read_steps steps ∙ ap as_read taken.are_sent) (in_world checks [] [] steps (taken.are checks opens links) taken.accepted)
+    subst (λ (l : List Message). RunIn checks trusting [] l (rows steps)) (read_steps steps ∙ ap as_read taken.are_sent) (in_world checks [] [] steps (taken.are checks opens links) taken.unrefused)
 
 pub stored : (sent : Sent) (merge : Merge) (v : View) (m : IsMerged sent merge v) → IsImageOf (rows m.steps) v.content
 stored sent merge v m =

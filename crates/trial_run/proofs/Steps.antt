@@ -34,7 +34,7 @@ use Rattle.store_take.specs.declared.message.Message.{Message}
 use Rattle.store_take.specs.declared.outcome.Outcome.{Outcome}
 use Rattle.store_take.proofs.Runs.{ended_joined, rows_one, steps_one}
 use Rattle.trial_run.specs.declared.merging.Merge.{Merge}
-use Rattle.trial_run.specs.Merging.{AreTaken, IsAccepted, Sent, sent_by}
+use Rattle.trial_run.specs.Merging.{AreTaken, IsUnrefused, Sent, sent_by}
 use Rattle.trial_run.specs.Taking.{AreStrings, IsMerged}
 
 -- ---- a message that goes out
@@ -105,9 +105,9 @@ timed moments left told made are time =
 
 -- ---- a message more
 
-accepted_more : (steps : List Step) (s : Step) → AllByRecursion IsAccepted steps → IsAccepted s → AllByRecursion IsAccepted (steps ++ s ∷ [])
-accepted_more [] s all one = (one, tt)
-accepted_more (x ∷ steps) s all one = (all.0, accepted_more steps s all.1 one)
+unrefused_more : (steps : List Step) (s : Step) → AllByRecursion IsUnrefused steps → IsUnrefused s → AllByRecursion IsUnrefused (steps ++ s ∷ [])
+unrefused_more [] s all one = (one, tt)
+unrefused_more (x ∷ steps) s all one = (all.0, unrefused_more steps s all.1 one)
 
 pairs_more : (steps : List Step) (s : Step) → map sent_by (steps ++ s ∷ []) ≡ map sent_by steps ++ sent_by s ∷ []
 pairs_more [] s = refl
@@ -146,7 +146,7 @@ module _ (merge : Merge) (before : Sent) (v : View) (m : IsMerged before merge v
           are_sent = pairs_more m.steps one.s ∙ ap (λ (l : Sent). l ++ sent_by one.s ∷ []) m.taken.are_sent ∙ ap (λ (p : List ℕ × List ℕ). before ++ p ∷ []) (λ i. (one.host_is i, one.bytes_are i));
           are = λ checks opens links. steps_one checks [] [] m.steps one.s (m.taken.are checks opens links)
               (subst (λ (e : List (List ℕ)). IsDecidedAs checks (rows m.steps) e (message_of one.s) one.s.decided) (sym m.none_ended) (told checks opens links));
-          accepted = accepted_more m.steps one.s m.taken.accepted (one.made.t, one.made.is, time.0, one.made.accepted);
+          unrefused = unrefused_more m.steps one.s m.taken.unrefused (one.made.t, one.made.is, time.0, one.made.accepted);
         };
         none_ended = ended_joined m.steps (one.s ∷ []) [] ∙ goes_on one.s.decided one.s.host (ended_by_all m.steps []) one.made ∙ m.none_ended;
         keeps = subst (λ (J : List Row). Keeps J s_now (view d_now)) rows_are (b.keeps (λ is. cc) refl keeps);

@@ -1,4 +1,4 @@
--- Steps that are accepted are a run in a world where everyone is trusted.
+-- Steps without refusals are a run in a world where everyone is trusted.
 use Rattle.std.proofs.Common.{◌≡◌, ℕ, Bool, true, false, List, [], ◌∷◌, ◌++◌, map, Option, Some, None, Result, Ok, Err, refl, sym, ◌∙◌, ap}
 use Rattle.std.specs.List.{AllByRecursion}
 use Rattle.at_event.specs.Frames.{frame_of}
@@ -22,7 +22,7 @@ use Rattle.relay_core.specs.declared.decision.Pass.{Pass}
 use Rattle.relay_law.specs.Calls.{as_read}
 use Rattle.relay_law.specs.Right.{LinksRight}
 use Rattle.relay_step.specs.Steps.{Decided, after_end, skipped, recorded, Step, AreSteps, IsDecidedAs, ended_decided, message_of, messages, rows, rows_decided}
-use Rattle.trial_run.specs.Merging.{IsAccepted, Sent, sent_by}
+use Rattle.trial_run.specs.Merging.{IsUnrefused, Sent, sent_by}
 
 -- A world in which every host is the home of whom it tells of, and every signature is good. There
 -- is no repository to fetch, and the clock stands at 0.
@@ -91,9 +91,9 @@ made_in checks J host (Ok frame) t made is =
     (nothing_to_send J host frame, ap (λ (o : Outside). decided checks (last_seq J) a host frame o) (answers_yes host a frame ∙ sym is) ∙ made)
 made_in checks J host (Err fault) t made is = absurd made
 
-pub in_world : (checks : Checks) (J : List Row) (ended : List (List ℕ)) (steps : List Step) → AreSteps checks J ended steps → AllByRecursion IsAccepted steps → RunsIn checks trusting J ended (messages steps) (rows steps)
-in_world checks J ended [] are accepted = refl
-in_world checks J ended (s ∷ steps) are accepted = by_told s.decided are.0 accepted.0 (in_world checks (J ++ rows_decided s.decided) (ended_decided s.decided s.host ended) steps are.1 accepted.1)
+pub in_world : (checks : Checks) (J : List Row) (ended : List (List ℕ)) (steps : List Step) → AreSteps checks J ended steps → AllByRecursion IsUnrefused steps → RunsIn checks trusting J ended (messages steps) (rows steps)
+in_world checks J ended [] are unrefused = refl
+in_world checks J ended (s ∷ steps) are unrefused = by_told s.decided are.0 unrefused.0 (in_world checks (J ++ rows_decided s.decided) (ended_decided s.decided s.host ended) steps are.1 unrefused.1)
   where
     by_told : (told : Decided) → IsDecidedAs checks J ended (message_of s) told → (t : Taken) × (told ≡ recorded t) × (t.moment ≡ Some 0) × (t.refusal ≡ None) → RunsIn checks trusting (J ++ rows_decided told) (ended_decided told s.host ended) (messages steps) (rows steps) → RunsIn checks trusting J ended (message_of s ∷ messages steps) (rows_decided told ++ rows steps)
     by_told after_end are made run = absurd cc

@@ -27,12 +27,12 @@ by_host sent = of_host (host_of 0) sent
 abbrev pub sent_by : Step → List ℕ × List ℕ
 sent_by s = (s.host, s.bytes)
 
--- The message made a row, at the moment 0, and the row says that it isn't refused.
-abbrev pub IsAccepted : Step → Type 0
-IsAccepted s = (t : Taken) × (s.decided ≡ recorded t) × (t.moment ≡ Some 0) × (t.refusal ≡ None)
+-- The message made a row, at the moment 0, that isn't a refusal.
+abbrev pub IsUnrefused : Step → Type 0
+IsUnrefused s = (t : Taken) × (s.decided ≡ recorded t) × (t.moment ≡ Some 0) × (t.refusal ≡ None)
 
--- These messages were taken in these steps, from the empty journal on, and each was accepted.
+-- These messages were taken in these steps, from the empty journal on, and none was refused.
 pub record AreTaken (sent : Sent) (steps : List Step) : Type 0 where
   pub are_sent : map sent_by steps ≡ sent
   pub are : (checks : Checks) → OpensRight checks → LinksRight checks → AreSteps checks [] [] steps
-  pub accepted : AllByRecursion IsAccepted steps
+  pub unrefused : AllByRecursion IsUnrefused steps
