@@ -7,8 +7,12 @@ fault_or other (Ok x) = other
 fault_or other (Err e) = e
 
 -- a call that answers otherwise fails with the same fault
-pub fails_as : (A B E : Type 0) (e f : E) → Err {A} {E} e ≡ Err f → Err {B} {E} e ≡ Err f
-fails_as A B E e f is = ap (λ (x : E). Err {B} {E} x) (ap (fault_or {A} f) is)
+pub fails_as : (A B E : Type 0) (e f : E) → ◌≡◌ {A = Result A E} (Err e) (Err f) → ◌≡◌ {A = Result B E} (Err e) (Err f)
+unfolding fault_or
+fails_as A B E e f is =
+    let back : Result A E → E = fault_or f in
+    let forth : E → Result B E = λ x. Err x in
+    ap forth (ap back is)
 
 -- a call to the first disk came last, and the other one stands
 pub counted_one : (failed : Type 0) (one two one_now two_now : ℕ) → two_now ≡ two → (failed → Rose one one_now) → ((failed → ⊥) → one_now ≡ one) → one ≤ one_now → CountedPair failed one two one_now two_now
