@@ -1,5 +1,6 @@
 -- One message more in a merge.
 use Rattle.std.proofs.Common.{◌≡◌, ℕ, Bool, true, List, [], ◌∷◌, ◌++◌, map, Option, Some, None, Result, Ok, Err, refl, sym, ◌∙◌, ap, subst, append_assoc}
+use Rattle.std.specs.List.{AllByRecursion}
 use Rattle.std.proofs.lemmas.List.{append-nil}
 use Rattle.at_cbor.specs.Encoding.{IsString}
 use Rattle.at_event.specs.Frames.{frame_of}
