@@ -30,14 +30,14 @@ use Rattle.relay_core.specs.Rows.{fetched_of}
 use Rattle.relay_core.specs.Runs.{IsMadeBy}
 use Rattle.relay_core.specs.Shown.{found_in, or_zero, shown}
 use Rattle.relay_step.specs.Around.{Around, AllAsked, SameRepositories}
-use Rattle.relay_step.specs.Fetching.{AreBytes, IsFetched, IsFetchedAs, IsFetchedFrom, IsFetchedTold, found_by, is_good, told_where}
+use Rattle.relay_step.specs.Fetching.{AreBytes, IsFetched, IsFetchedAs, IsFetchedFrom, IsFetchedTold, found_and_asked, told_where}
 use Rattle.relay_io.specs.Choices.{WhereElse}
 use Rattle.relay_step.specs.Operators.{IsFetchCommand, IsSyncedBy}
 use Rattle.relay_step.specs.declared.command.CommandAnswer.{CommandAnswer}
 use Rattle.relay_step.specs.Steps.{Step, Decided, after_end, skipped, recorded, AreSteps, IsDecidedAs, ended_decided, message_of, rows, rows_decided}
 use Rattle.chain_law.specs.Given.{AreGiven, IsFoundOfRepository, IsGiven, IsOfEvent, IsOfRepository}
 use Rattle.chain_law.specs.GivenLaws.{OperatedAreGiven, StepsAreGiven, SyncedAreGiven}
-use Rattle.chain_law.specs.Made.{AreOfBytes, GiveBytes, IsOfBytes}
+use Rattle.chain_law.specs.Made.{AreOfBytes, GiveBytes}
 
 -- ---- what was taken over of a repository is what its bytes come to
 
@@ -45,37 +45,34 @@ record IsSame (head other : Head) (block another : List ℕ) : Type 0 where
   heads : head ≡ other
   blocks : block ≡ another
 
-judged_found : (ahead good : Bool) (head other : Head) (n m x y : ℕ) (block another : List ℕ) → found other m another ≡ (if ahead then unfit x else (if good then found head n block else unfit y)) → IsSame head other block another
-judged_found true good head other n m x y block another same = absurd cc
-judged_found false false head other n m x y block another same = absurd cc
-judged_found false true head other n m x y block another same = record { heads = cc; blocks = cc }
+judged_found : (ahead good : Bool) (head other : Head) (n m x y : ℕ) (block another : List ℕ) (asked : List Call)
+    → (if◌then◌else◌ {A = Found × List Call} ahead (unfit x, []) (if good then found head n block else unfit y, asked)).0 ≡ found other m another → IsSame head other block another
+judged_found true good head other n m x y block another asked same = absurd cc
+judged_found false false head other n m x y block another asked same = absurd cc
+judged_found false true head other n m x y block another asked same = record { heads = cc; blocks = cc }
 
 answered_found : (did : List ℕ) (least : Option ℕ) (moment : ℕ) (good : Bool) (bytes : List ℕ) (head : Head) (n : ℕ) (block : List ℕ) → IsBytes bytes → (answer : Result Checked RepoFault) → IsAnswer did least bytes answer
-    → found head n block ≡ found_by moment good answer → IsOfRepository did least head block
+    → (found_and_asked did moment good answer).0 ≡ found head n block → IsOfRepository did least head block
 answered_found did least moment good bytes head n block are (Ok checked) is same =
-    let so = judged_found _ good checked.head head checked.records n _ _ checked.block block same in
+    let so = judged_found _ good checked.head head checked.records n _ _ checked.block block _ same in
     record { bytes = bytes; are = are; checked = checked; whole = is; head_is = so.heads; block_is = so.blocks }
 answered_found did least moment good bytes head n block are (Err fault) is same = absurd cc
 
 not_absent : (head : Head) (n : ℕ) (block : List ℕ) → found head n block ≡ absent → ⊥
 not_absent head n block same = cc
 
-stored_found : (o : Option (List ℕ)) → IsOfBytes o → (did : List ℕ) (least : Option ℕ) (moment : ℕ) (good : Bool) (head : Head) (n : ℕ) (block : List ℕ) (calls : List Call)
-    → IsFetchedFrom o did least moment good (found head n block) calls → IsOfRepository did least head block
-stored_found None are did least moment good head n block calls from = absurd (not_absent head n block from.0)
-stored_found (Some bytes) are did least moment good head n block calls from = answered_found did least moment good bytes head n block (are bytes refl) from.answer from.is from.found_is
-
-of_bytes : (o : Option (List ℕ)) → AreBytes o → IsOfBytes o
-of_bytes None are bytes is = absurd cc
-of_bytes (Some b) are bytes is = let same : b ≡ bytes = cc in subst IsBytes same are
+stored_found : (o : Option (List ℕ)) → AreBytes o → (did : List ℕ) (least : Option ℕ) (moment : ℕ) (head : Head) (n : ℕ) (block : List ℕ) (calls : List Call)
+    → IsFetchedFrom o did least moment (found head n block) calls → IsOfRepository did least head block
+stored_found None are did least moment head n block calls from = absurd (not_absent head n block from.0)
+stored_found (Some bytes) are did least moment head n block calls (answer, good, is, came) = answered_found did least moment good bytes head n block are answer is (ap (λ (x : Found × List Call). x.0) came)
 
 -- a repository that is told is bytes
 abbrev ToldBytes : Option (Option (List ℕ)) → Type 0
-ToldBytes o = (repository : Option (List ℕ)) → o ≡ Some repository → IsOfBytes repository
+ToldBytes o = (repository : Option (List ℕ)) → o ≡ Some repository → AreBytes repository
 
 fetched_found : (o : Option (Option (List ℕ))) → ToldBytes o → (did : List ℕ) (least : Option ℕ) (moment : ℕ) (head : Head) (n : ℕ) (block : List ℕ) (calls : List Call) → IsFetchedAs o did least moment (found head n block) calls → IsOfRepository did least head block
-fetched_found (Some repository) are did least moment head n block calls from = stored_found repository (are repository refl) did least moment true head n block calls from
-fetched_found None are did least moment head n block calls (some, bytes, from) = stored_found some (of_bytes some bytes) did least moment true head n block calls from
+fetched_found (Some repository) are did least moment head n block calls from = stored_found repository (are repository refl) did least moment head n block calls from
+fetched_found None are did least moment head n block calls (some, bytes, from) = stored_found some bytes did least moment head n block calls from
 
 in_some : (f : Fetched) (o : Option (Option (List ℕ))) → ToldBytes o → (did : List ℕ) (least : Option ℕ) (moment : ℕ) (calls : List Call)
     → ((whole : Whole) → f ≡ Fetched.Whole whole → IsFetchedAs o did least moment (found_in f) calls) → IsFoundOfRepository did least (found_in f)
@@ -89,7 +86,7 @@ abbrev TellBytes : Bool → (List ℕ → Option (List ℕ)) → Type 0
 TellBytes tells repository = IsTrue tells → GiveBytes repository
 
 told_bytes : (tells : Bool) (repository : List ℕ → Option (List ℕ)) (did : List ℕ) → TellBytes tells repository → ToldBytes (told_where tells (repository did))
-told_bytes true repository did are one same = let is : repository did ≡ one = cc in subst IsOfBytes is (are refl did)
+told_bytes true repository did are one same = let is : repository did ≡ one = cc in subst (λ (r : Option (List ℕ)). AreBytes r) is (are refl did)
 told_bytes false repository did are one same = absurd cc
 
 -- ---- a row that took a repository over lost its account
@@ -154,7 +151,7 @@ frame_given checks J host message (Err fault) t tells repository calls are fetch
 -- ---- the rows of all steps
 
 stored_on : (tells : Bool) (old new : List ℕ → Option (List ℕ)) → (IsTrue tells → SameRepositories old new) → TellBytes tells old → TellBytes tells new
-stored_on tells old new same are told = λ did bytes is. are told did bytes (sym (same told did) ∙ is)
+stored_on tells old new same are told = λ did. subst (λ (r : Option (List ℕ)). AreBytes r) (sym (same told did)) (are told did)
 
 told_given : (checks : Checks) (J : List Row) (ended : List (List ℕ)) (s : Step) (told : Decided) (others : List Row) (tells : Bool) (repository : List ℕ → Option (List ℕ)) (calls : List Call) → TellBytes tells repository → IsBytes s.bytes
     → IsDecidedAs checks J ended (message_of s) told → IsFetchedTold tells repository J told calls → AreGiven checks (J ++ rows_decided told) others → AreGiven checks J (rows_decided told ++ others)
@@ -188,16 +185,16 @@ operated_given checks J did down time moment row short made =
 row_is : (one two : Row) → CommandAnswer.Made one ≡ CommandAnswer.Made two → one ≡ two
 row_is one two same = cc
 
-found_given : (checks : Checks) (J : List Row) (did time : List ℕ) (moment : ℕ) (repository : Option (List ℕ)) (row : Row) → IsShortText time → IsOfBytes repository
-    → sync_refusal (account did J) ≡ None → (f : Found) (calls : List Call) → IsFetchedFrom repository did (last_rev (account did J).repo) moment (is_good f) f calls → IsFetchCommand (last_seq J) did time moment f (CommandAnswer.Made row) → IsGiven checks J row
+found_given : (checks : Checks) (J : List Row) (did time : List ℕ) (moment : ℕ) (repository : Option (List ℕ)) (row : Row) → IsShortText time → AreBytes repository
+    → sync_refusal (account did J) ≡ None → (f : Found) (calls : List Call) → IsFetchedFrom repository did (last_rev (account did J).repo) moment f calls → IsFetchCommand (last_seq J) did time moment f (CommandAnswer.Made row) → IsGiven checks J row
 found_given checks J did time moment repository row short are fine absent calls from is = absurd cc
 found_given checks J did time moment repository row short are fine (unfit n) calls from is = absurd cc
 found_given checks J did time moment repository row short are fine (found head records block) calls from is =
     let made = row_is row (Row.Synced did (whole_under did time head records block (last_seq J + 1)) (Some moment)) is in
     subst (λ (x : Row). IsGiven checks J x) (sym made)
-    (record { time = time; short = short; allowed = fine; head = head; records = records; block = block; fetched = stored_found repository are did (last_rev (account did J).repo) moment true head records block calls from; is = refl })
+    (record { time = time; short = short; allowed = fine; head = head; records = records; block = block; fetched = stored_found repository are did (last_rev (account did J).repo) moment head records block calls from; is = refl })
 
-synced_by : (checks : Checks) (old new : Panel) (J : List Row) (did time : List ℕ) (moment : ℕ) (repository : Option (List ℕ)) (row : Row) → IsShortText time → IsOfBytes repository
+synced_by : (checks : Checks) (old new : Panel) (J : List Row) (did time : List ℕ) (moment : ℕ) (repository : Option (List ℕ)) (row : Row) → IsShortText time → AreBytes repository
     → (q : Option Refusal) → sync_refusal (account did J) ≡ q → IsSyncedBy q old J did time moment (Some repository) (CommandAnswer.Made row) new → IsGiven checks J row
 synced_by checks old new J did time moment repository row short are (Some r) fine by = absurd (refused_not row r by.0)
   where

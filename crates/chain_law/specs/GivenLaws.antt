@@ -6,11 +6,12 @@ use Rattle.at_event.specs.Formed.{IsShortText}
 use Rattle.relay_row.specs.declared.row.Row.{Row}
 use Rattle.relay_core.specs.Decide.{Checks}
 use Rattle.relay_step.specs.Around.{Around, AllAsked}
+use Rattle.relay_step.specs.Fetching.{AreBytes}
 use Rattle.relay_step.specs.Operators.{IsOperated, IsSyncedNow}
 use Rattle.relay_step.specs.Steps.{Step, AreSteps, rows}
 use Rattle.relay_step.specs.declared.command.CommandAnswer.{CommandAnswer}
 use Rattle.chain_law.specs.Given.{AreGiven, IsGiven}
-use Rattle.chain_law.specs.Made.{AreOfBytes, IsOfBytes, GiveBytes, ComeByCommands}
+use Rattle.chain_law.specs.Made.{AreOfBytes, GiveBytes, ComeByCommands}
 
 -- Behind rows that are given, the rows of steps are given, where the repositories that tell give
 -- bytes.
@@ -32,7 +33,7 @@ OperatedAreGiven = (checks : Checks) (J : List Row) (did : List ℕ) (down : Boo
 abbrev pub SyncedAreGiven : Type 0
 SyncedAreGiven = (checks : Checks) (old new : Panel) (J : List Row) (did time : List ℕ) (moment : ℕ)
     (repository : Option (List ℕ)) (row : Row)
-    → IsShortText time → IsOfBytes repository
+    → IsShortText time → AreBytes repository
     → IsSyncedNow old J did time moment (Some repository) (CommandAnswer.Made row) new
     → IsGiven checks J row
 

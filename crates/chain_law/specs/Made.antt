@@ -8,6 +8,7 @@ use Rattle.relay_row.specs.declared.row.Row.{Row}
 use Rattle.relay_core.specs.Decide.{Checks}
 use Rattle.relay_law.specs.Histories.{IsCut}
 use Rattle.relay_step.specs.Around.{Around, AllAsked}
+use Rattle.relay_step.specs.Fetching.{AreBytes}
 use Rattle.relay_step.specs.Operators.{IsOperated, IsSyncedNow}
 use Rattle.relay_step.specs.Steps.{Step, AreSteps, rows}
 use Rattle.relay_step.specs.declared.command.CommandAnswer.{CommandAnswer}
@@ -16,13 +17,9 @@ use Rattle.relay_step.specs.declared.command.CommandAnswer.{CommandAnswer}
 abbrev pub AreOfBytes : List Step → Type 0
 AreOfBytes steps = AllByRecursion (λ s. IsBytes s.bytes) steps
 
--- the repository is bytes, where there is one
-abbrev pub IsOfBytes : Option (List ℕ) → Type 0
-IsOfBytes repository = (bytes : List ℕ) → repository ≡ Some bytes → IsBytes bytes
-
--- so is each DID's
+-- each DID's repository is bytes
 abbrev pub GiveBytes : (List ℕ → Option (List ℕ)) → Type 0
-GiveBytes repository = (did : List ℕ) → IsOfBytes (repository did)
+GiveBytes repository = (did : List ℕ) → AreBytes (repository did)
 
 -- Messages were taken behind the journal J. It holds the rows that they made, or the first of them,
 -- where a crash took the others.
@@ -63,7 +60,7 @@ pub record SyncsAccount (J K : List Row) : Type 0 where
   pub repository : Option (List ℕ)
   pub row : Row
   pub short : IsShortText time
-  pub bytes : IsOfBytes repository
+  pub bytes : AreBytes repository
   pub made : IsSyncedNow old J did time moment (Some repository) (CommandAnswer.Made row) new
   pub now : K ≡ J ++ row ∷ []
 

@@ -37,7 +37,7 @@ use Rattle.relay_core.specs.Decide.{Checks}
 use Rattle.relay_core.specs.Runs.{Run}
 use Rattle.relay_law.specs.Carried.{IsOfKnown}
 use Rattle.relay_law.specs.Chains.{chains}
-use Rattle.relay_law.specs.Faithful.{IsFaithful}
+use Rattle.relay_law.specs.Faithful.{IsReadBack}
 use Rattle.relay_law.specs.Right.{AreRight, root_expected}
 use Rattle.relay_law.specs.Sound.{AreLinked, GoesFrom, IsSound}
 use Rattle.relay_law.proofs.Choosing.{some_right}
@@ -208,9 +208,9 @@ runs_unsound = record {
 
 -- ---- rows that read as something else
 
-unread_row : (seq : ℕ) (message : List ℕ) (fault : FrameFault) → frame_of message ≡ Err fault → seq ≢ 0 → IsFaithful (accepted 1 seq message top) → ⊥
-unread_row seq message fault unread some faithful =
-    let reads = faithful.0 some in
+unread_row : (seq : ℕ) (message : List ℕ) (fault : FrameFault) → frame_of message ≡ Err fault → seq ≢ 0 → IsReadBack (accepted 1 seq message top) → ⊥
+unread_row seq message fault unread some back =
+    let reads = back.0 some in
     let same : Err fault ≡ Ok (Frame.Event reads.event) = sym unread ∙ reads.reads in
     absurd cc
 

@@ -36,7 +36,7 @@ use Rattle.relay_row.proofs.Journals.{grew, grows, no_rows}
 use Rattle.account_state.specs.Folds.{account}
 use Rattle.relay_core.specs.Decide.{commit_blocks, commit_car, found, sync_message, whole_under}
 use Rattle.relay_core.specs.Operating.{operated_as}
-use Rattle.relay_law.specs.Faithful.{IsFaithful, ReadsAs}
+use Rattle.relay_law.specs.Faithful.{IsReadBack, ReadsAs, SendsWhatItKeeps}
 use Rattle.relay_law.specs.Formed.{IsFormedFound}
 use Rattle.law_premises.specs.Forming.{SyncedMayBeIllFormed}
 use Rattle.law_premises.specs.Runs.{OperatorsMayBeUnfaithful}
@@ -174,11 +174,11 @@ long_next = refl
 long_journal : IsJournal (long_word ∷ [])
 long_journal = grows [] long_word no_rows long_formed long_next
 
-long_unread : IsFaithful long_word → ⊥
+long_unread : SendsWhatItKeeps [] long_word → ⊥
 unfolding last_seq
 long_unread reads = not_read _ _ _ _ (account_unread did long did_is_text long_is_text long_account) reads
 
-nameless_unread : IsFaithful (Row.Operated (operated_as (last_seq []) (account [] []) [] true (codes "t") (Some 0))) → ⊥
+nameless_unread : SendsWhatItKeeps [] (Row.Operated (operated_as (last_seq []) (account [] []) [] true (codes "t") (Some 0))) → ⊥
 unfolding last_seq
 nameless_unread reads = not_read _ _ _ _ (account_unread [] (codes "t") none_is_text (ascii (codes "t") refl (lit< tt)) nameless_account) reads
 
@@ -243,11 +243,11 @@ over_next = refl
 over_journal : IsJournal (taken_over did long ∷ [])
 over_journal = grows [] (taken_over did long) no_rows over_formed over_next
 
-over_unread : IsFaithful (taken_over did long) → ⊥
+over_unread : IsReadBack (taken_over did long) → ⊥
 unfolding last_seq
 over_unread reads = not_read _ _ _ _ (sync_unread did long did_is_text long_is_text long_sync) reads
 
-nameless_over : IsFaithful (taken_over [] (codes "t")) → ⊥
+nameless_over : IsReadBack (taken_over [] (codes "t")) → ⊥
 unfolding last_seq
 nameless_over reads = not_read _ _ _ _ (sync_unread [] (codes "t") none_is_text (ascii (codes "t") refl (lit< tt)) nameless_sync) reads
 

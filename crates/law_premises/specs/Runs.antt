@@ -1,21 +1,18 @@
 -- Laws of runs, each without one of its premises.
-use Rattle.std.specs.Prelude.{ℕ, ◌+◌, Bool, Option, List, [], ◌∷◌, ◌++◌}
+use Rattle.std.specs.Prelude.{ℕ, Bool, Option, List, [], ◌∷◌, ◌++◌}
 use Rattle.std.specs.List.{AllByRecursion}
 use Rattle.at_cid.specs.Link.{IsBytes}
 use Rattle.at_event.specs.Formed.{IsShortText}
 use Rattle.at_event.specs.declared.head.Head.{Head}
-use Rattle.relay_row.specs.Folds.{last_seq}
 use Rattle.relay_row.specs.Journal.{IsJournal}
 use Rattle.relay_row.specs.declared.row.Row.{Row}
-use Rattle.account_state.specs.Folds.{account}
-use Rattle.relay_core.specs.Decide.{Checks, whole_under}
+use Rattle.relay_core.specs.Decide.{Checks}
 use Rattle.relay_core.specs.Opening.{OpensRight}
-use Rattle.relay_core.specs.Operating.{operated_as}
 use Rattle.relay_core.specs.Runs.{Message, Run}
 use Rattle.relay_law.specs.Calls.{as_read}
 use Rattle.relay_law.specs.Carried.{AreOfKnown}
-use Rattle.relay_law.specs.Faithful.{AreFaithful, IsFaithful}
-use Rattle.relay_law.specs.Laws.{AreEvents}
+use Rattle.relay_law.specs.Faithful.{AreReadBack, IsReadBack, SendsWhatItKeeps}
+use Rattle.relay_law.specs.Laws.{AreEvents, operated_row, synced_row}
 use Rattle.relay_law.specs.Right.{AreRight, LinksRight}
 use Rattle.relay_law.specs.Sound.{IsSound}
 
@@ -46,13 +43,13 @@ pub record RunsMayBeUnsound : Type 0 where
 pub record RunsMayBeUnfaithful : Type 0 where
   -- where an event isn't read from its payload
   pub events : ((checks : Checks) (J : List Row) (messages : List Message) (rows : List Row)
-      → IsJournal (J ++ rows) → Run checks J messages rows → AreFaithful rows) → ⊥
+      → IsJournal (J ++ rows) → Run checks J messages rows → AreReadBack rows) → ⊥
   -- where the rows are no journal
   pub journal : ((checks : Checks) (J : List Row) (messages : List Message) (rows : List Row)
-      → AreEvents messages → Run checks J messages rows → AreFaithful rows) → ⊥
+      → AreEvents messages → Run checks J messages rows → AreReadBack rows) → ⊥
   -- where the rows are of no run
   pub run : ((checks : Checks) (J : List Row) (messages : List Message) (rows : List Row)
-      → AreEvents messages → IsJournal (J ++ rows) → AreFaithful rows) → ⊥
+      → AreEvents messages → IsJournal (J ++ rows) → AreReadBack rows) → ⊥
 
 -- Rows of no run may accept a commit of an account that was lost, however right the checks.
 abbrev pub RowsMayBeOfLost : Type 0
@@ -80,24 +77,17 @@ pub record StoresMayBeUnsound : Type 0 where
 pub record OperatorsMayBeUnfaithful : Type 0 where
   -- of an account that is taken down or restored, where the time isn't short
   pub operated_time : ((J : List Row) (did : List ℕ) (down : Bool) (time : List ℕ)
-      (moment : Option ℕ)
-      → IsJournal (J ++ Row.Operated (operated_as (last_seq J) (account did J) did down time moment)
-      ∷ [])
-      → IsFaithful (Row.Operated (operated_as (last_seq J) (account did J) did down time moment)))
-      → ⊥
+      (moment : Option ℕ) → IsJournal (J ++ operated_row J did down time moment ∷ [])
+      → SendsWhatItKeeps J (operated_row J did down time moment)) → ⊥
   -- where the rows are no journal
   pub operated_journal : ((J : List Row) (did : List ℕ) (down : Bool) (time : List ℕ)
       (moment : Option ℕ) → IsShortText time
-      → IsFaithful (Row.Operated (operated_as (last_seq J) (account did J) did down time moment)))
-      → ⊥
+      → SendsWhatItKeeps J (operated_row J did down time moment)) → ⊥
   -- and likewise of a repository that was fetched
   pub synced_time : ((J : List Row) (did time : List ℕ) (head : Head) (records : ℕ) (block : List ℕ)
       (moment : Option ℕ)
-      → IsJournal (J ++ Row.Synced did
-      (whole_under did time head records block (last_seq J + 1)) moment ∷ [])
-      → IsFaithful (Row.Synced did (whole_under did time head records block
-      (last_seq J + 1)) moment)) → ⊥
+      → IsJournal (J ++ synced_row J did time head records block moment ∷ [])
+      → IsReadBack (synced_row J did time head records block moment)) → ⊥
   pub synced_journal : ((J : List Row) (did time : List ℕ) (head : Head) (records : ℕ)
       (block : List ℕ) (moment : Option ℕ) → IsShortText time
-      → IsFaithful (Row.Synced did (whole_under did time head records block
-      (last_seq J + 1)) moment)) → ⊥
+      → IsReadBack (synced_row J did time head records block moment)) → ⊥

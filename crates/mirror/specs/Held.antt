@@ -1,6 +1,6 @@
 -- What a mirror holds of an account: the map of its repository, as the messages of a stream lead to
 -- it (own definition).
-use Rattle.std.specs.Prelude.{◌≡◌, ℕ, Bool, true, false, not, ◌&&◌, is_some, List, [], ◌∷◌, Option, Some, None, Result, Ok, Err}
+use Rattle.std.specs.Prelude.{◌≡◌, ℕ, Bool, true, false, not, ◌&&◌, is_some, List, [], ◌∷◌, Option, Some, None, Result, Ok}
 use Rattle.std.specs.List.{list_all}
 use Rattle.std.specs.Str.{bytes_eq}
 use Rattle.at_event.specs.Frames.{frame_of}
@@ -57,8 +57,7 @@ IsAfterSync repositories sync Holding.Waiting = (t : List Item) → Answers repo
 abbrev pub IsAfterBody : Repositories → Body → Holding → Holding → Type 0
 IsAfterBody repositories (Body.Commit c) old new = IsAfterCommit c old new
 IsAfterBody repositories (Body.Sync sync) old new = IsAfterSync repositories sync new
-IsAfterBody repositories Body.Identity old new = new ≡ old
-IsAfterBody repositories (Body.Account a) old new = new ≡ old
+IsAfterBody repositories body old new = new ≡ old
 
 -- and so do events of other accounts
 abbrev pub IsAfterEvent : Repositories → List ℕ → Seen → Holding → Holding → Type 0
@@ -69,11 +68,7 @@ IsAfterEvent repositories did e old new =
 abbrev pub IsAfterFrame : Repositories → List ℕ → Result Frame FrameFault → Holding → Holding
     → Type 0
 IsAfterFrame repositories did (Ok (Frame.Event e)) old new = IsAfterEvent repositories did e old new
-IsAfterFrame repositories did (Ok (Frame.Faulty seq)) old new = new ≡ old
-IsAfterFrame repositories did (Ok Frame.Info) old new = new ≡ old
-IsAfterFrame repositories did (Ok Frame.Error) old new = new ≡ old
-IsAfterFrame repositories did (Ok Frame.Unknown) old new = new ≡ old
-IsAfterFrame repositories did (Err fault) old new = new ≡ old
+IsAfterFrame repositories did other old new = new ≡ old
 
 -- what one message makes of what is held of the account of a DID
 abbrev pub IsAfter : Repositories → List ℕ → List ℕ → Holding → Holding → Type 0

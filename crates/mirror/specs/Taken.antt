@@ -1,5 +1,5 @@
 -- What one message makes of a mirror.
-use Rattle.std.specs.Prelude.{◌≡◌, ℕ, Bool, true, false, not, ◌&&◌, ◌||◌, List, length, nat_lt, IsTrue, Result, Ok, Err}
+use Rattle.std.specs.Prelude.{◌≡◌, ℕ, Bool, true, false, not, ◌&&◌, ◌||◌, List, length, nat_lt, IsTrue, Result, Ok}
 use Rattle.std.specs.Str.{bytes_eq}
 use Rattle.at_event.specs.Bodies.{has_blocks}
 use Rattle.at_event.specs.Frames.{frame_of}
@@ -18,35 +18,22 @@ use Rattle.mirror.specs.declared.step.Step.{Step}
 -- the message is no event above the last number, and no `#info`
 abbrev pub is_bad : ℕ → Result Frame FrameFault → Bool
 is_bad last (Ok (Frame.Event e)) = not (nat_lt last e.seq)
-is_bad last (Ok (Frame.Faulty seq)) = true
 is_bad last (Ok Frame.Info) = false
-is_bad last (Ok Frame.Error) = true
-is_bad last (Ok Frame.Unknown) = true
-is_bad last (Err fault) = true
+is_bad last other = true
 
 -- the last number behind a message
 abbrev pub last_behind : ℕ → Result Frame FrameFault → ℕ
 last_behind last (Ok (Frame.Event e)) = e.seq
-last_behind last (Ok (Frame.Faulty seq)) = last
-last_behind last (Ok Frame.Info) = last
-last_behind last (Ok Frame.Error) = last
-last_behind last (Ok Frame.Unknown) = last
-last_behind last (Err fault) = last
+last_behind last other = last
 
 abbrev pub is_sync : Body → Bool
-is_sync (Body.Commit c) = false
 is_sync (Body.Sync sync) = true
-is_sync Body.Identity = false
-is_sync (Body.Account a) = false
+is_sync other = false
 
 -- the message is an event of the DID with such a body
 abbrev pub is_such_event_of : (Body → Bool) → List ℕ → Result Frame FrameFault → Bool
 is_such_event_of such did (Ok (Frame.Event e)) = such e.body && bytes_eq did e.did
-is_such_event_of such did (Ok (Frame.Faulty seq)) = false
-is_such_event_of such did (Ok Frame.Info) = false
-is_such_event_of such did (Ok Frame.Error) = false
-is_such_event_of such did (Ok Frame.Unknown) = false
-is_such_event_of such did (Err fault) = false
+is_such_event_of such did other = false
 
 -- what a message came to, by what is held behind it
 abbrev pub step_of : Holding → Step

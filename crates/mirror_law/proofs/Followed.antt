@@ -31,13 +31,15 @@ use Rattle.account_state.specs.State.{State}
 use Rattle.account_state.specs.declared.repo.Repo.{Repo}
 use Rattle.relay_core.specs.Rows.{kind_number}
 use Rattle.relay_law.specs.Chains.{commits, rests, carried_part, effect_part, part_in, taken_part}
-use Rattle.relay_law.specs.Faithful.{IsFaithful, IsFaithfulEvent, IsFaithfulFetch, IsFaithfulWhole}
+use Rattle.relay_law.specs.Faithful.{HoldsOfWhole, SendsEvent, SendsSync, SendsWhatItKeeps}
+use Rattle.relay_law.proofs.Reading.{EventRead}
 use Rattle.relay_law.proofs.Sounding.{decided_formed}
 use Rattle.relay_law.proofs.Tracking.{is_account}
 use Rattle.mirror.specs.Held.{IsHeldFrom}
 use Rattle.mirror.specs.Repository.{Repositories}
 use Rattle.mirror.specs.declared.holding.Holding.{Holding}
-use Rattle.relay_law.specs.Heads.{EffectGives, GivesHead, GivesItsHead}
+use Rattle.relay_core.specs.Opening.{IsHeadOf}
+use Rattle.relay_law.specs.Heads.{GivesHead}
 use Rattle.mirror_law.specs.Open.{OpenChain, base, opened_by}
 use Rattle.mirror_law.proofs.After.{after_own}
 use Rattle.mirror_law.proofs.Sends.{nonzero}
@@ -130,7 +132,7 @@ abbrev sends_by : Bool → Taken → Fetched → List (List ℕ)
 sends_by silent t f = messages_of (cond silent (events_of f) ((t.seq, t.message) ∷ []))
 
 -- the message of an accepted event of another kind, if it goes out at all
-own_quiet : (repositories : Repositories) (t : Taken) (held next : Holding) (silent : Bool) → t.seq == 0 ≡ silent → IsFaithfulEvent t → t.kind == 1 ≡ false → t.kind == 2 ≡ false
+own_quiet : (repositories : Repositories) (t : Taken) (held next : Holding) (silent : Bool) → t.seq == 0 ≡ silent → EventRead t → t.kind == 1 ≡ false → t.kind == 2 ≡ false
     → IsHeldFrom repositories t.did held (sends_by silent t Fetched.NotAsked) next → next ≡ held
 own_quiet repositories t held next true is faithful one two h = h
 own_quiet repositories t held next false is faithful one two h =
@@ -140,11 +142,17 @@ own_quiet repositories t held next false is faithful one two h =
 
 -- ---- rows that state a repository anew
 
-stated : (repositories : Repositories) (did : List ℕ) (w : Whole) (held next : Holding) → IsFaithfulWhole did w → IsHeldFrom repositories did held (w.message ∷ []) next
+stated_by : (repositories : Repositories) (did : List ℕ) (w : Whole) (held next : Holding) (e : Seen) (body : Body) → frame_of w.message ≡ Ok (Frame.Event e) → e.did ≡ did → e.body ≡ body → kind_number body ≡ 2 → IsHeadOf body w.head
+    → IsHeldFrom repositories did held (w.message ∷ []) next → HoldsChain repositories (Repo.Good w.head) (record { began = base w.head.data_root (w.message ∷ []); commits = [] }) next
+stated_by repositories did w held next e (Body.Sync y) reads own says kind gives h =
+    sync_step repositories next w.message w.head e y reads says gives.rev_is (after_own repositories did w.message e (Body.Sync y) held next reads own says h)
+stated_by repositories did w held next e (Body.Commit c) reads own says kind gives h = absurd cc
+stated_by repositories did w held next e Body.Identity reads own says kind gives h = absurd cc
+stated_by repositories did w held next e (Body.Account a) reads own says kind gives h = absurd cc
+
+stated : (repositories : Repositories) (did : List ℕ) (w : Whole) (held next : Holding) → SendsSync did w → IsHeldFrom repositories did held (w.message ∷ []) next
     → HoldsChain repositories (Repo.Good w.head) (record { began = base w.head.data_root (w.message ∷ []); commits = [] }) next
-stated repositories did w held next r h =
-    let y = r.says.0 in
-    sync_step repositories next w.message w.head r.event y r.reads r.says.1 (sym r.says.2) (after_own repositories did w.message r.event (Body.Sync y) held next r.reads r.did_is r.says.1 h)
+stated repositories did w held next r h = stated_by repositories did w held next r.event r.event.body r.reads r.did_is refl r.says.0 r.says.1 h
 
 -- ---- an accepted event
 
@@ -165,18 +173,18 @@ not_four repo head Body.Identity kind is gives = absurd gives
 not_four repo head (Body.Account a) kind is gives = absurd gives
 
 -- by the effect of an accepted event
-by_effect : (repositories : Repositories) (t : Taken) (a : State) (chain : OpenChain) (held next : Holding) → IsAccepted t → IsFaithfulEvent t → (x : Effect) → is_effect t.kind x ≡ true → EffectGives a.repo t x
+by_effect : (repositories : Repositories) (t : Taken) (a : State) (chain : OpenChain) (held next : Holding) → IsAccepted t → (x : Effect) → is_effect t.kind x ≡ true → SendsEvent a.repo t x
     → HoldsChain repositories a.repo chain held → IsHeldFrom repositories t.did held (sends_by (t.seq == 0) t Fetched.NotAsked) next
     → HoldsChain repositories (effected a x).repo (opened_by (effect_part t.kind t.message x) (sends_by (t.seq == 0) t Fetched.NotAsked) chain) next
-by_effect repositories t a chain held next is faithful Effect.Nothing kind kept follows h =
+by_effect repositories t a chain held next is Effect.Nothing kind kept follows h =
     let three = eqb-true t.kind 3 kind in
     let P : ℕ → ℕ → Type 0 = λ k n. n == k ≡ false in
-    stays repositories a.repo chain held next (own_quiet repositories t held next (t.seq == 0) refl faithful (subst (P 1) (sym three) refl) (subst (P 2) (sym three) refl) h) follows
-by_effect repositories t a chain held next is faithful (Effect.Account active status) kind kept follows h =
+    stays repositories a.repo chain held next (own_quiet repositories t held next (t.seq == 0) refl kept (subst (P 1) (sym three) refl) (subst (P 2) (sym three) refl) h) follows
+by_effect repositories t a chain held next is (Effect.Account active status) kind kept follows h =
     let four = eqb-true t.kind 4 (and_parts (t.kind == 4) _ kind).0 in
     let P : ℕ → ℕ → Type 0 = λ k n. n == k ≡ false in
-    stays repositories a.repo chain held next (own_quiet repositories t held next (t.seq == 0) refl faithful (subst (P 1) (sym four) refl) (subst (P 2) (sym four) refl) h) follows
-by_effect repositories t a chain held next is faithful (Effect.Repo head) kind kept follows h =
+    stays repositories a.repo chain held next (own_quiet repositories t held next (t.seq == 0) refl kept (subst (P 1) (sym four) refl) (subst (P 2) (sym four) refl) h) follows
+by_effect repositories t a chain held next is (Effect.Repo head) kind kept follows h =
     let s = sent t is (not_four a.repo head kept.event.body t.kind kept.says.0 kept.says.1) in
     let P : Bool → Type 0 = λ b. IsHeldFrom repositories t.did held (sends_by b t Fetched.NotAsked) next in
     let Q : Bool → Type 0 = λ b. HoldsChain repositories (Repo.Good head) (opened_by (effect_part t.kind t.message (Effect.Repo head)) (sends_by b t Fetched.NotAsked) chain) next in
@@ -200,7 +208,7 @@ silent_fetch repositories t a r chain held next none follows is =
     let P : Effect → Type 0 = λ x. HoldsChain repositories (lost (effected a x) (Some r)).repo (opened_by (effect_part t.kind t.message x) [] chain) next in
     subst P (sym none) (stays repositories (lost a (Some r)).repo chain held next is (lost_follows repositories a r chain held follows))
 
-by_fetch : (repositories : Repositories) (t : Taken) (a : State) (r : Refusal) (chain : OpenChain) (held next : Holding) → t.effect ≡ Effect.Nothing → (f : Fetched) → IsFaithfulFetch t.did f
+by_fetch : (repositories : Repositories) (t : Taken) (a : State) (r : Refusal) (chain : OpenChain) (held next : Holding) → t.effect ≡ Effect.Nothing → (f : Fetched) → HoldsOfWhole (SendsSync t.did) f
     → HoldsChain repositories a.repo chain held → IsHeldFrom repositories t.did held (messages_of (events_of f)) next
     → HoldsChain repositories (refetched (lost (effected a t.effect) (Some r)) f).repo (opened_by (taken_part t f) (messages_of (events_of f)) chain) next
 by_fetch repositories t a r chain held next none Fetched.NotAsked kept follows h = silent_fetch repositories t a r chain held next none follows h
@@ -214,16 +222,16 @@ abbrev Goes : Repositories → State → Row → OpenChain → Holding → Holdi
 Goes repositories a row chain held next = HoldsChain repositories a.repo chain held → IsHeldFrom repositories (did_of_row row) held (messages_of (events_in row)) next
     → HoldsChain repositories (moved a row).repo (opened_by (part_in row) (messages_of (events_in row)) chain) next
 
-taken_goes : (repositories : Repositories) (t : Taken) (a : State) (chain : OpenChain) (held next : Holding) → IsFaithfulEvent t → EffectGives a.repo t t.effect → IsFaithfulFetch t.did t.fetched
+taken_goes : (repositories : Repositories) (t : Taken) (a : State) (chain : OpenChain) (held next : Holding) → SendsEvent a.repo t t.effect → HoldsOfWhole (SendsSync t.did) t.fetched
     → (q : Option Refusal) → t.refusal ≡ q → is_decided q t ≡ true → Goes repositories a (Row.Taken t) chain held next
-taken_goes repositories t a chain held next faithful effect fetch None q is follows h =
+taken_goes repositories t a chain held next effect fetch None q is follows h =
     let done = accepted t is in
     let P : Fetched → Type 0 = λ f. IsHeldFrom repositories t.did held (sends_by (t.seq == 0) t f) next in
     let Q : Fetched → Type 0 = λ f. HoldsChain repositories (refetched (lost (effected a t.effect) None) f).repo (opened_by (taken_part t f) (sends_by (t.seq == 0) t f) chain) next in
     let R : Option Refusal → Type 0 = λ r. HoldsChain repositories (refetched (lost (effected a t.effect) r) t.fetched).repo (opened_by (taken_part t t.fetched) (sends_by (t.seq == 0) t t.fetched) chain) next in
     subst R (sym q) (subst Q (sym done.fetched)
-    (by_effect repositories t a chain held next done faithful t.effect done.effect effect follows (subst P done.fetched h)))
-taken_goes repositories t a chain held next faithful effect fetch (Some r) q is follows h =
+    (by_effect repositories t a chain held next done t.effect done.effect effect follows (subst P done.fetched h)))
+taken_goes repositories t a chain held next effect fetch (Some r) q is follows h =
     let done = refused r t is in
     let P : Bool → Type 0 = λ b. IsHeldFrom repositories t.did held (sends_by b t t.fetched) next in
     let Q : Bool → Type 0 = λ b. HoldsChain repositories (refetched (lost (effected a t.effect) (Some r)) t.fetched).repo (opened_by (taken_part t t.fetched) (sends_by b t t.fetched) chain) next in
@@ -239,18 +247,18 @@ carried_goes repositories b a chain held next start follows is (CarriedRepo.Good
 carried_goes repositories b a chain held next start follows is (CarriedRepo.Lost rev) =
     λ s t begins replay. let i = stays repositories a.repo chain held next is follows s t begins replay in (i.0, i.1, tt, i.3)
 
-pub row_goes : (repositories : Repositories) (J : List Row) (row : Row) (chain : OpenChain) (held next : Holding) → is_row row ≡ true → IsFaithful row → GivesItsHead J row
+pub row_goes : (repositories : Repositories) (J : List Row) (row : Row) (chain : OpenChain) (held next : Holding) → is_row row ≡ true → SendsWhatItKeeps J row
     → (is_account row ≡ true → (account (did_of_row row) J).repo ≡ Repo.Missing) → Goes repositories (account (did_of_row row) J) row chain held next
 unfolding is_row
-row_goes repositories J (Row.Taken t) chain held next formed faithful kept start =
-    taken_goes repositories t (account t.did J) chain held next faithful.0 kept.0 faithful.1 t.refusal refl (decided_formed t formed)
-row_goes repositories J (Row.Synced did whole moment) chain held next formed faithful kept start = λ follows h.
-    stated repositories did whole held next faithful h
-row_goes repositories J (Row.Operated o) chain held next formed faithful kept start = λ follows h.
-    let r = faithful in
+row_goes repositories J (Row.Taken t) chain held next formed sends start =
+    taken_goes repositories t (account t.did J) chain held next sends.0 sends.1 t.refusal refl (decided_formed t formed)
+row_goes repositories J (Row.Synced did whole moment) chain held next formed sends start = λ follows h.
+    stated repositories did whole held next sends h
+row_goes repositories J (Row.Operated o) chain held next formed sends start = λ follows h.
+    let r = sends in
     let word = r.says in
     stays repositories (account o.did J).repo chain held next (after_own repositories o.did o.message r.event (Body.Account word.0) held next r.reads r.did_is word.1 h) follows
-row_goes repositories J (Row.Carried (Carried.Last seq)) chain held next formed faithful kept start = λ follows h. stays repositories (account [] J).repo chain held next h follows
-row_goes repositories J (Row.Carried (Carried.Host host n)) chain held next formed faithful kept start = λ follows h. stays repositories (account [] J).repo chain held next h follows
-row_goes repositories J (Row.Carried (Carried.Account b)) chain held next formed faithful kept start = λ follows h.
+row_goes repositories J (Row.Carried (Carried.Last seq)) chain held next formed sends start = λ follows h. stays repositories (account [] J).repo chain held next h follows
+row_goes repositories J (Row.Carried (Carried.Host host n)) chain held next formed sends start = λ follows h. stays repositories (account [] J).repo chain held next h follows
+row_goes repositories J (Row.Carried (Carried.Account b)) chain held next formed sends start = λ follows h.
     carried_goes repositories b (account b.did J) chain held next (start refl) follows h b.repo

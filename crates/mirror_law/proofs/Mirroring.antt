@@ -21,7 +21,7 @@ use Rattle.account_state.specs.State.{State}
 use Rattle.account_state.specs.declared.repo.Repo.{Repo}
 use Rattle.account_state.proofs.Joined.{joined}
 use Rattle.relay_law.specs.Chains.{nothing, part_in}
-use Rattle.relay_law.specs.Faithful.{AreFaithful}
+use Rattle.relay_law.specs.Faithful.{IsFaithfulJournal, SendWhatTheyKeep}
 use Rattle.account_state.proofs.Dids.{names_same}
 use Rattle.relay_law.proofs.Tracking.{is_account, kept_order}
 use Rattle.chain_law.proofs.Following.{about_parts}
@@ -29,7 +29,6 @@ use Rattle.chain_law.specs.Chained.{all_about, has_no_event, rows_about, withhol
 use Rattle.mirror.specs.Held.{IsHeld, IsHeldFrom}
 use Rattle.mirror.specs.Repository.{Repositories}
 use Rattle.mirror.specs.declared.holding.Holding.{Holding}
-use Rattle.relay_law.specs.Heads.{GiveHeads, IsFaithfulJournal}
 use Rattle.relay_law.proofs.Staying.{stay_faithful}
 use Rattle.mirror_law.specs.Laws.{MayBeMirrored, MirrorsHoldChains, MirrorsHoldHeads}
 use Rattle.mirror_law.specs.Mirrored.{IsFirstMap, Replay, sent}
@@ -85,8 +84,7 @@ StepBy repositories did J row named chain next =
 record Is (J before rows : List Row) (did : List ℕ) : Type 0 where
   whole : J ≡ before ++ rows
   formed : list_all is_row rows ≡ true
-  faithful : AreFaithful rows
-  heads : GiveHeads before rows
+  sends : SendWhatTheyKeep before rows
   shown : all_about did (withholds_nothing (is_shown J)) rows ≡ true
 
 shown_parts : (J : List Row) (did : List ℕ) (row : Row) (rows : List Row) → all_about did (withholds_nothing (is_shown J)) (row ∷ rows) ≡ true
@@ -111,11 +109,11 @@ step repositories J before row rows did chain held next journal is follows h =
           → HoldsChain repositories (moved (account d before) row).repo (opened_by (part_in row) (messages_of (events_in row)) chain) next in
           let R : List ℕ → Type 0 = λ d. is_account row ≡ true → (account d before).repo ≡ Repo.Missing in
           let start : is_account row ≡ true → (account did before).repo ≡ Repo.Missing = λ carried. unnamed_missing did before (kept_order did before row (journal.ordered before row rows is.whole) carried named) in
-          subst Q (sym own) (row_goes repositories before row chain held next (and_parts (is_row row) (list_all is_row rows) is.formed).0 is.faithful.0 is.heads.0 (subst R own start)) follows
+          subst Q (sym own) (row_goes repositories before row chain held next (and_parts (is_row row) (list_all is_row rows) is.formed).0 is.sends.0 (subst R own start)) follows
           (subst P (shown_whole (is_shown J row) (events_in row) ((shown_parts J did row rows is.shown).0 named)) h)
       | false ↦ λ named.
           let S : Holding → Type 0 = λ x. HoldsChain repositories (account did before).repo chain x in
-          let of = shown_or_none (is_shown J row) (did_of_row row) (events_in row) (sends_of row (and_parts (is_row row) (list_all is_row rows) is.formed).0 is.faithful.0) in
+          let of = shown_or_none (is_shown J row) (did_of_row row) (events_in row) (sends_of before row (and_parts (is_row row) (list_all is_row rows) is.formed).0 is.sends.0) in
           subst S (sym (others_stay repositories did (did_of_row row) named (cond (is_shown J row) (events_in row) []) of held next h)) follows
     ] refl
 
@@ -144,8 +142,7 @@ followed repositories J before (row ∷ front) others did chain held next journa
     (record {
       whole = is.whole ∙ sym (append_assoc before (row ∷ []) (front ++ others));
       formed = (and_parts (is_row row) (list_all is_row (front ++ others)) is.formed).1;
-      faithful = is.faithful.1;
-      heads = is.heads.1;
+      sends = is.sends.1;
       shown = (shown_parts J did row (front ++ others) is.shown).1;
     })
     (subst Q (account_more did before row) one) s.2)
@@ -171,15 +168,13 @@ after_front : (J front : List Row) (did : List ℕ) (repositories : Repositories
 after_front J front did repositories s may holding h =
     let is = may.journal in
     let Q : List Row → Type 0 = λ R. list_all is_row R ≡ true in
-    let F : List Row → Type 0 = λ R. AreFaithful R in
-    let K : List Row → Type 0 = λ R. GiveHeads [] R in
+    let K : List Row → Type 0 = λ R. SendWhatTheyKeep [] R in
     let N : List Row → Type 0 = λ R. all_about did (withholds_nothing (is_shown J)) R ≡ true in
     followed repositories J [] front may.others did first_chain (Holding.Mapped None []) holding is.journal
     (record {
       whole = may.whole;
       formed = subst Q may.whole is.journal.formed;
-      faithful = subst F may.whole is.faithful;
-      heads = subst K may.whole is.heads;
+      sends = subst K may.whole is.sends;
       shown = subst N may.whole may.shown;
     })
     (first_follows repositories did) h

@@ -5,7 +5,7 @@ use Rattle.event_window.specs.Held.{Event}
 use Rattle.backfill.specs.Served.{messages_of}
 use Rattle.backfill.specs.Writing.{with_length}
 use Rattle.at_cid.specs.Lengths.{length_prefixed}
-use Rattle.relay_law.specs.Heads.{IsFaithfulJournal}
+use Rattle.relay_law.specs.Faithful.{IsFaithfulJournal}
 use Rattle.relay_law.proofs.Staying.{stay_faithful}
 use Rattle.relay_store.specs.Shown.{shown_of}
 use Rattle.mirror_law.specs.Laws.{AreFrames, WrittenAreSent}
@@ -28,4 +28,4 @@ sent_once (m ∷ messages) (event ∷ events) frames sent is =
 pub written_sent : WrittenAreSent
 written_sent J front others messages whole is frames bytes =
     let faithful = stay_faithful.front front others (subst IsFaithfulJournal whole is) in
-    sent_once messages (shown_of J front) frames (all_sent J front faithful.journal.formed faithful.faithful) bytes
+    sent_once messages (shown_of J front) frames (all_sent J [] front faithful.journal.formed faithful.sends) bytes

@@ -11,7 +11,7 @@ use Rattle.relay_row.specs.declared.row.Row.{Row}
 use Rattle.account_state.specs.Folds.{account}
 use Rattle.account_state.specs.declared.repo.Repo.{Repo}
 use Rattle.relay_law.specs.Chains.{Chain, chains}
-use Rattle.relay_law.specs.Heads.{IsFaithfulJournal}
+use Rattle.relay_law.specs.Faithful.{IsFaithfulJournal}
 use Rattle.chain_law.specs.Chained.{all_about, withholds_nothing}
 use Rattle.relay_store.specs.Shown.{held_by, is_shown}
 use Rattle.mirror.specs.Held.{IsHeld}

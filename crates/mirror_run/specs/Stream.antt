@@ -1,6 +1,6 @@
 -- Streams of messages, each after its length in four bytes, and how far a mirror can take them
 -- (own).
-use Rattle.std.specs.Prelude.{◌≡◌, ◌≢◌, ◌≤◌, ◌<◌, ℕ, Bool, true, false, List, [], ◌∷◌, ◌++◌, length, filter, Result, Ok, Err}
+use Rattle.std.specs.Prelude.{◌≡◌, ◌≢◌, ◌≤◌, ◌<◌, ℕ, Bool, true, false, List, [], ◌∷◌, ◌++◌, length, filter, Result, Ok}
 use Rattle.std.specs.Int.{to_be_bytes, w32}
 use Rattle.std.specs.List.{list_any}
 use Rattle.at_event.specs.Frames.{frame_of}
@@ -49,11 +49,7 @@ pub data EndsInMessage (bytes : List ℕ) : Type 0 where
 -- the message is an event
 abbrev pub is_event : Result Frame FrameFault → Bool
 is_event (Ok (Frame.Event e)) = true
-is_event (Ok (Frame.Faulty seq)) = false
-is_event (Ok Frame.Info) = false
-is_event (Ok Frame.Error) = false
-is_event (Ok Frame.Unknown) = false
-is_event (Err fault) = false
+is_event other = false
 
 -- how many events there are among messages
 abbrev pub event_count : List (List ℕ) → ℕ

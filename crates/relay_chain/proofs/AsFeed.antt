@@ -12,14 +12,16 @@ use Rattle.relay_core.specs.Decide.{Checks}
 use Rattle.relay_core.specs.Opening.{OpensRight}
 use Rattle.relay_core.specs.Runs.{Message as Read, Run, has_ended}
 use Rattle.relay_law.specs.Calls.{as_read}
-use Rattle.relay_law.specs.Faithful.{AreFaithful}
+use Rattle.relay_law.specs.Faithful.{SendWhatTheyKeep}
+use Rattle.relay_law.specs.Heads.{FetchesGive}
 use Rattle.relay_law.specs.Laws.{AreEvents}
 use Rattle.relay_law.specs.Right.{LinksRight}
 use Rattle.relay_law.proofs.Choosing.{some_right}
-use Rattle.relay_law.proofs.Reading.{runs_faithful}
+use Rattle.relay_law.proofs.Giving.{runs_faithful}
 use Rattle.relay_law.proofs.Sent.{sent_events}
 use Rattle.relay_step.specs.Around.{AllAsked}
 use Rattle.relay_step.specs.Steps.{Step, AreSteps, ended_by_all, message_of, messages, rows}
+use Rattle.relay_step.proofs.Blocks.{steps_give}
 use Rattle.relay_step.proofs.Steps.{steps_join, steps_run}
 use Rattle.store_take.specs.Batches.{messages_sent}
 use Rattle.relay_store.specs.Shown.{held_by}
@@ -32,6 +34,7 @@ use Rattle.take_run.specs.Ingested.{Followed}
 use Rattle.take_run.specs.Tapes.{AreRecords}
 use Rattle.take_run.proofs.Joining.{journal_joined}
 use Rattle.take_run.proofs.Records.{records_front}
+use Rattle.take_run.proofs.Sounds.{fetched_front}
 use Rattle.chain_law.specs.Trust.{Trusts}
 use Rattle.chain_law.proofs.Trusting.{steps_show}
 use Rattle.relay_chain.specs.Chained.{AccountsFollow, AccountsGoOn, AllTaken, Chained}
@@ -40,7 +43,7 @@ use Rattle.relay_chain.proofs.Again.{served_go_on}
 use Rattle.relay_chain.proofs.Few.{not_as_many}
 use Rattle.relay_chain.proofs.Serving.{served_follow}
 
--- ---- faithful rows
+-- ---- what the rows send out
 
 abbrev pairs : List Step → List (List ℕ × List ℕ)
 pairs steps = map (λ (s : Step). (s.host, s.bytes)) steps
@@ -52,10 +55,6 @@ pairs_read (s ∷ steps) = ap (λ (l : List Read). message_of s ∷ l) (pairs_re
 pairs_bytes : (steps : List Step) → AreRecords (messages_sent steps) → AllByRecursion (λ (m : List ℕ × List ℕ). IsBytes m.1) (pairs steps)
 pairs_bytes [] all = tt
 pairs_bytes (s ∷ steps) all = (all.1, pairs_bytes steps all.2)
-
-faithful_joined : (xs ys : List Row) → AreFaithful xs → AreFaithful ys → AreFaithful (xs ++ ys)
-faithful_joined [] ys one two = two
-faithful_joined (x ∷ xs) ys one two = (one.0, faithful_joined xs ys one.1 two)
 
 -- ---- what was followed
 
@@ -72,16 +71,16 @@ module _ (t : Tells) (host : List ℕ) (most : ℕ) (one two : List Row) (journa
   run : (taking : Status) (f : FollowedTo taking) (checks : Checks) → OpensRight checks → LinksRight checks → Run checks two (messages f.taken.steps) (rows f.taken.steps)
   run taking f checks opens links = steps_run checks two [] f.taken.steps ((steps_join checks two [] f.taken.steps (f.taken.under ++ f.taken.extra)).0 (f.taken.are checks opens links)).0
 
-  faithful : (taking : Status) (f : FollowedTo taking) → AreFaithful two → AreFaithful (two ++ rows f.taken.steps)
-  faithful taking f was =
+  sends : (taking : Status) (f : FollowedTo taking) → SendWhatTheyKeep two (rows f.taken.steps)
+  sends taking f =
       let steps = f.taken.steps in
       let over = f.taken.under ++ f.taken.extra in
       let all : AreRecords (messages_sent (steps ++ over)) = records_front (messages_sent (steps ++ over)) f.taken.behind f.took.records in
       let records : AreRecords (messages_sent steps) = records_front (messages_sent steps) (messages_sent over) (subst AreRecords (sent_joined steps over) all) in
       let are : AreEvents (messages steps) = subst AreEvents (sym (pairs_read steps)) (sent_events (pairs steps) (pairs_bytes steps records)) in
       let whole : IsJournal ((two ++ rows steps) ++ rows over) = subst IsJournal (sym (journal_joined two steps over)) f.taken.journal in
-      faithful_joined two (rows steps) was
-      (runs_faithful some_right.0 two (messages steps) (rows steps) are (fronts (two ++ rows steps) (rows over) whole) (run taking f some_right.0 some_right.1 some_right.2))
+      let given : FetchesGive (rows steps) = fetched_front steps over (steps_give t.clock t.repos two old.around f.taken.mid (steps ++ over) f.taken.journal f.taken.asked) in
+      runs_faithful some_right.0 some_right.1 some_right.2 two (messages steps) (rows steps) are (fronts (two ++ rows steps) (rows over) whole) given (run taking f some_right.0 some_right.1 some_right.2)
 
   -- where it is done
   module _ (f : FollowedTo Status.Done) where
@@ -145,4 +144,4 @@ module _ (t : Tells) (host : List ℕ) (most : ℕ) (one two : List Row) (journa
   again_of taking f is = absurd cc
 
   pub chained : (taking : Status) → FollowedTo taking → Chained t host most one two old new taking
-  chained taking f = record { left = left; followed = f; run = run taking f; all = all_of taking f; faithful = faithful taking f; law = law_of taking f; again = again_of taking f }
+  chained taking f = record { left = left; followed = f; run = run taking f; all = all_of taking f; sends = sends taking f; law = law_of taking f; again = again_of taking f }

@@ -6,7 +6,7 @@ use Rattle.relay_row.specs.declared.row.Row.{Row}
 use Rattle.relay_core.specs.Decide.{Checks}
 use Rattle.relay_core.specs.Opening.{OpensRight}
 use Rattle.relay_core.specs.Runs.{Run, has_ended}
-use Rattle.relay_law.specs.Faithful.{AreFaithful}
+use Rattle.relay_law.specs.Faithful.{SendWhatTheyKeep}
 use Rattle.relay_law.specs.Right.{LinksRight}
 use Rattle.relay_step.specs.Steps.{Step, ended_by_all, messages, rows}
 use Rattle.store_take.specs.Batches.{messages_sent}
@@ -61,8 +61,8 @@ pub record Chained (t : Tells) (host : List ℕ) (most : ℕ) (one two : List Ro
   -- where it is done they are all that is served, or all up to the host's end
   pub all : taking ≡ Status.Done → AllTaken host
       (served (held_by one) (Some (cursor host two))) followed.taken.steps
-  -- what the rows send out is read as that
-  pub faithful : AreFaithful two → AreFaithful (two ++ rows followed.taken.steps)
+  -- what the rows send out is read as what they keep
+  pub sends : SendWhatTheyKeep two (rows followed.taken.steps)
   -- and the accounts follow
   pub law : taking ≡ Status.Done → AccountsFollow host one two (rows followed.taken.steps)
   -- run after run

@@ -1,8 +1,8 @@
 //! Which word of a command is wrong.
 
 use crate::arguments::number_from;
-use crate::command::{MOST, MOST_TRIED};
-use crate::verb::{Verb, verb_from};
+use crate::command::{Command, MOST, MOST_TRIED, command_from};
+use crate::words_fault::WordsFault;
 use at_cid::NUMBERS;
 use at_form::LONGEST_SHORT_TEXT;
 use at_syntax::{collection_ok, did_ok, host_ok};
@@ -56,23 +56,23 @@ impl Display for Argument {
     }
 }
 
-// The arguments of a command, and how they are written.
-fn form(verb: Verb) -> (&'static [Argument], &'static str) {
-    match verb {
-        Verb::Check => (&[], "check"),
-        Verb::Ingest => (&[], "ingest"),
-        Verb::Hosts => (&[], "hosts"),
-        Verb::Mirror => (&[], "mirror"),
-        Verb::Follow => (&[Argument::Host, COUNT], "follow HOST N"),
-        Verb::Replay => (&[CURSOR], "replay CURSOR"),
-        Verb::Serve => (&[COUNT], "serve N"),
-        Verb::Query => (&[COUNT], "query N"),
-        Verb::Account => (&[Argument::Did], "account DID"),
-        Verb::Takedown => (&[Argument::Did, Argument::Time], "takedown DID TIME"),
-        Verb::Restore => (&[Argument::Did, Argument::Time], "restore DID TIME"),
-        Verb::Sync => (&[Argument::Did, Argument::Time], "sync DID TIME"),
-        Verb::Cut => (&[CURSOR], "cut SEQ"),
-        Verb::Trial => (
+// The arguments of the command of this name, and how it is written, where there is one.
+fn form(name: &str) -> Option<(&'static [Argument], &'static str)> {
+    let form: (&'static [Argument], &'static str) = match name {
+        "check" => (&[], "check"),
+        "ingest" => (&[], "ingest"),
+        "hosts" => (&[], "hosts"),
+        "mirror" => (&[], "mirror"),
+        "follow" => (&[Argument::Host, COUNT], "follow HOST N"),
+        "replay" => (&[CURSOR], "replay CURSOR"),
+        "serve" => (&[COUNT], "serve N"),
+        "query" => (&[COUNT], "query N"),
+        "account" => (&[Argument::Did], "account DID"),
+        "takedown" => (&[Argument::Did, Argument::Time], "takedown DID TIME"),
+        "restore" => (&[Argument::Did, Argument::Time], "restore DID TIME"),
+        "sync" => (&[Argument::Did, Argument::Time], "sync DID TIME"),
+        "cut" => (&[CURSOR], "cut SEQ"),
+        "trial" => (
             &[
                 CURSOR,
                 Argument::Number {
@@ -82,8 +82,10 @@ fn form(verb: Verb) -> (&'static [Argument], &'static str) {
             ],
             "trial START N",
         ),
-        Verb::Lines => (&[CURSOR, Argument::Collection], "lines CURSOR COLL"),
-    }
+        "lines" => (&[CURSOR, Argument::Collection], "lines CURSOR COLL"),
+        _ => return None,
+    };
+    Some(form)
 }
 
 // A word that isn't what it has to be.
@@ -110,25 +112,15 @@ impl Display for Unknown<'_> {
     }
 }
 
-/// The command that the words are of, or the status where they are none, which is reported with the
-/// word that is wrong and what is wanted in its place.
-pub fn explain(reporter: Reporter, folder: &str, words: &[String]) -> Result<Verb, Status> {
-    if folder.is_empty() {
-        reporter.report("usage", &"the name of the folder is empty");
-        return Err(Status::Usage);
-    }
-    let [first, given @ ..] = words else {
-        reporter.report(folder, &"a command has to follow: see relay --help");
-        return Err(Status::Usage);
+// Reports which word keeps a name, and what is given with it, from being a command, and what is wanted in its place.
+fn explain(reporter: Reporter, name: &str, given: &[String]) {
+    let Some((wanted, line)) = form(name) else {
+        reporter.report("usage", &Unknown(name));
+        return;
     };
-    let Some(verb) = verb_from(first.as_str()) else {
-        reporter.report("usage", &Unknown(first.as_str()));
-        return Err(Status::Usage);
-    };
-    let (wanted, line) = form(verb);
     if given.len() != wanted.len() {
         reporter.report("usage: relay DIR", &line);
-        return Err(Status::Usage);
+        return;
     }
     for (word, argument) in given.iter().zip(wanted.iter()) {
         if !argument.is(word.as_str()) {
@@ -137,8 +129,32 @@ pub fn explain(reporter: Reporter, folder: &str, words: &[String]) -> Result<Ver
                 wanted: *argument,
             };
             reporter.report(line, &unexpected);
-            return Err(Status::Usage);
+            return;
         }
     }
-    Ok(verb)
+}
+
+/// The command that the words are, or the status where they are none, which is reported with the
+/// word that is wrong and what is wanted in its place.
+pub fn command_or_why(
+    reporter: Reporter,
+    folder: &str,
+    words: &[String],
+) -> Result<Command, Status> {
+    if folder.is_empty() {
+        reporter.report("usage", &"the name of the folder is empty");
+        return Err(Status::Usage);
+    }
+    let [name, given @ ..] = words else {
+        reporter.report(folder, &"a command has to follow: see relay --help");
+        return Err(Status::Usage);
+    };
+    match command_from(reporter.rt().alloc(), words) {
+        Ok(command) => Ok(command),
+        Err(WordsFault::Memory) => Err(Status::Memory),
+        Err(WordsFault::NoCommand) => {
+            explain(reporter, name.as_str(), given);
+            Err(Status::Usage)
+        }
+    }
 }

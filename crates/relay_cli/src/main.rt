@@ -13,14 +13,14 @@ mod report;
 mod running;
 mod status;
 mod times;
-mod verb;
 mod verdict;
 mod words_fault;
 
 use at_authority::Panel;
 use at_cid::Memory;
 pub use checking::check;
-use explaining::explain;
+use command::Command;
+use explaining::command_or_why;
 use help::{HELP, VERSION};
 use meaning::{report_end, report_sockets};
 use os_edge::{
@@ -37,7 +37,6 @@ pub use running::relay;
 use std::cell::Cell;
 use std::process::ExitCode;
 use times::remark_on_time;
-use verb::{Verb, verb_from};
 use ws_edge::{DOOR_PORT, TcpWire, WIRE_PORT, WsDoor, WsFeed};
 
 /// What the program says of itself.
@@ -51,10 +50,10 @@ const TEXTS: Texts = Texts {
 fn disks_for(
     reporter: Reporter,
     folder: &str,
-    verb: Verb,
+    command: &Command,
 ) -> Result<(FileDisk<JournalFile>, FileDisk<JournalFile>), Unopened> {
     let alloc = reporter.rt().alloc();
-    let Journal { log, other } = match verb.access() {
+    let Journal { log, other } = match command.access() {
         Some(access) => open_journal(alloc, reporter, folder, access)?,
         None => Journal::in_memory(alloc, reporter),
     };
@@ -62,15 +61,10 @@ fn disks_for(
 }
 
 // What is worth a remark before a command begins.
-fn remark_before(
-    reporter: Reporter,
-    folder: &str,
-    verb: Verb,
-    words: &[String],
-) -> Result<(), Memory> {
-    match (verb, words) {
-        (Verb::Follow, [_, host, _]) => remark_on_stranger(reporter, folder, host.as_str()),
-        (Verb::Takedown | Verb::Restore | Verb::Sync, [_, _, time]) => {
+fn remark_before(reporter: Reporter, folder: &str, command: &Command) -> Result<(), Memory> {
+    match command {
+        Command::Follow(host, _) => remark_on_stranger(reporter, folder, host.as_str()),
+        Command::Takedown(_, time) | Command::Restore(_, time) | Command::Sync(_, time) => {
             remark_on_time(reporter, time.as_str());
             Ok(())
         }
@@ -82,13 +76,13 @@ fn remark_before(
 fn run_in(
     reporter: Reporter,
     folder: &str,
-    verb: Verb,
+    command: &Command,
     words: &[String],
 ) -> Result<Status, Unopened> {
     let rt = *reporter.rt();
     let alloc = rt.alloc();
-    let (mut disk, mut other) = disks_for(reporter, folder, verb)?;
-    remark_before(reporter, folder, verb, words)?;
+    let (mut disk, mut other) = disks_for(reporter, folder, command)?;
+    remark_before(reporter, folder, command)?;
     let mut panel = Panel::new(alloc);
     for (method, name) in TABLES {
         let Ok(authority) = Box::new(alloc, authority_in(reporter, folder, name)?) else {
@@ -103,13 +97,13 @@ fn run_in(
         ReaderSource::new(reporter, "standard input", rt.stdin()),
         reporter,
         &taken,
-        verb == Verb::Mirror,
+        matches!(command, Command::Mirror),
     );
     let mut out = ProgressSink::new(
         WriterSink::new(reporter, "standard output", rt.stdout()),
         reporter,
         &taken,
-        matches!(verb, Verb::Ingest | Verb::Follow),
+        matches!(command, Command::Ingest | Command::Follow(_, _)),
     );
     let mut feed = WsFeed::new(alloc, rt);
     let mut door = WsDoor::new(alloc, rt, DOOR_PORT);
@@ -128,14 +122,14 @@ fn run_in(
         wire.fault(),
     );
     report_end(reporter, folder, status);
-    if verb == Verb::Cut && status == Status::Done {
+    if matches!(command, Command::Cut(_)) && status == Status::Done {
         record_generation(alloc, reporter, folder)?;
     }
     Ok(status)
 }
 
-// Runs the program with these words.
-fn run(reporter: Reporter, words: &[String]) -> Status {
+// Runs the program with these words, where the standard input is closed or not.
+fn run(reporter: Reporter, words: &[String], is_closed: bool) -> Status {
     if let Some(text) = TEXTS.asked(words) {
         return match write_text(reporter, text) {
             Ok(()) => Status::Done,
@@ -146,12 +140,17 @@ fn run(reporter: Reporter, words: &[String]) -> Status {
         reporter.show(&HELP);
         return Status::Usage;
     };
-    match explain(reporter, folder.as_str(), words) {
-        Ok(verb) => match run_in(reporter, folder.as_str(), verb, words) {
-            Ok(status) => status,
-            Err(fault) => status::of_unopened(fault),
-        },
-        Err(status) => status,
+    let command = match command_or_why(reporter, folder.as_str(), words) {
+        Ok(command) => command,
+        Err(status) => return status,
+    };
+    if is_closed && command.reads_input() {
+        reporter.report("standard input", &"it is closed");
+        return Status::ReadFault;
+    }
+    match run_in(reporter, folder.as_str(), &command, words) {
+        Ok(status) => status,
+        Err(fault) => status::of_unopened(fault),
     }
 }
 
@@ -176,22 +175,7 @@ fn run_held(reporter: Reporter) -> Status {
         }
         Err(ArgumentsFault::Memory) => return Status::Memory,
     };
-    if closed.input && reads_input(words.as_slice()) {
-        reporter.report("standard input", &"it is closed");
-        return Status::ReadFault;
-    }
-    run(reporter, words.as_slice())
-}
-
-// Whether the words are those of a command that reads the standard input.
-fn reads_input(words: &[String]) -> bool {
-    match words {
-        [_, word, ..] => matches!(
-            verb_from(word.as_str()),
-            Some(Verb::Check | Verb::Ingest | Verb::Mirror)
-        ),
-        _ => false,
-    }
+    run(reporter, words.as_slice(), closed.input)
 }
 
 fn main(rt: HostRuntime) -> ExitCode {

@@ -1,4 +1,4 @@
--- The rows of a run give the heads that they keep.
+-- The rows of a run send what they keep.
 use Rattle.std.proofs.Common.{◌≡◌, ℕ, ◌+◌, Bool, true, false, ◌&&◌, ◌||◌, List, [], ◌∷◌, ◌++◌, Option, Some, None, Ok, Err, refl, ap, ◌∙◌, sym, cond, subst, append_assoc}
 use Rattle.std.proofs.lemmas.Bool.{and_parts, ltb-true}
 use Rattle.std.specs.Prelude.{nat_lt, ◌==◌}
@@ -19,11 +19,13 @@ use Rattle.relay_row.specs.Rules.{is_row, is_taken, is_accepted, is_effect, is_f
 use Rattle.at_cid.specs.declared.limits.TheConstants.{NUMBERS}
 use Rattle.relay_row.specs.declared.fetched.Fetched.{Fetched}
 use Rattle.relay_row.specs.declared.row.Row.{Row}
+use Rattle.relay_row.specs.declared.taken.Effect.{Effect}
 use Rattle.relay_row.specs.declared.taken.Taken.{Taken}
 use Rattle.relay_row.proofs.Journals.{grew, fronts}
 use Rattle.relay_row.proofs.Fits.{FitsFetched, taken_fits}
 use Rattle.account_state.specs.Folds.{account, last_rev}
 use Rattle.account_state.specs.State.{State}
+use Rattle.account_state.specs.declared.repo.Repo.{Repo}
 use Rattle.relay_core.specs.Decide.{Checks, Found, Outside, absent, unfit, found, answers, decided_event, decision_for, fetched_as, first_refusal, refusal_of}
 use Rattle.relay_core.specs.Opening.{IsHeadOf, OpensRight, shown_alone}
 use Rattle.relay_core.specs.Rows.{event_taken, faulty_taken, head_effect, kind_number}
@@ -35,9 +37,21 @@ use Rattle.relay_core.specs.declared.limits.TheConstants.{LONGEST_MESSAGE}
 use Rattle.relay_law.specs.Laws.{AreEvents}
 use Rattle.relay_law.specs.Right.{LinksRight}
 use Rattle.relay_law.proofs.Own.{whole_gives}
+use Rattle.relay_law.proofs.Reading.{EventRead, event_reads}
 use Rattle.relay_law.proofs.Sounding.{accepted_taken, decided_formed, later_events, later_none, links_none, taken_is}
-use Rattle.relay_law.specs.Heads.{EffectGives, FetchGives, FetchesGive, FoundGives, GivesHead, GivesItsHead, GiveHeads}
-use Rattle.relay_law.specs.Laws.{RunsGiveHeads}
+use Rattle.relay_law.specs.Faithful.{HoldsOfWhole, SendsEvent, SendsSync, SendsWhatItKeeps, SendWhatTheyKeep}
+use Rattle.relay_law.specs.Heads.{FetchesGive, FoundGives, GivesHead}
+use Rattle.relay_law.specs.Laws.{RunsAreFaithful}
+
+-- an event of a row that keeps a head gives it
+abbrev EffectGives : Repo → Taken → Effect → Type 0
+EffectGives before t (Effect.Repo head) = SendsEvent before t (Effect.Repo head)
+EffectGives before t effect = Unit {0}
+
+both_sent : (before : Repo) (t : Taken) (x : Effect) → EventRead t → EffectGives before t x → SendsEvent before t x
+both_sent before t Effect.Nothing read gives = read
+both_sent before t (Effect.Account active status) read gives = read
+both_sent before t (Effect.Repo head) read gives = gives
 
 -- an accepted commit's or `#sync`'s number is one
 
@@ -110,7 +124,7 @@ event_gives checks opens links n a host e o read =
 
 -- ---- the relay's own `#sync`
 
-made_gives : (n : ℕ) (e : Seen) (f : Found) (timed : Bool) → IsEvent e → FoundGives f → FitsFetched timed (fetched_as n e f) → FetchGives e.did (fetched_as n e f)
+made_gives : (n : ℕ) (e : Seen) (f : Found) (timed : Bool) → IsEvent e → FoundGives f → FitsFetched timed (fetched_as n e f) → HoldsOfWhole (SendsSync e.did) (fetched_as n e f)
 made_gives n e absent timed read gives fits = tt
 made_gives n e (unfit k) timed read gives fits = tt
 made_gives n e (found head records block) timed read gives fits =
@@ -118,35 +132,37 @@ made_gives n e (found head records block) timed read gives fits =
     whole_gives e.did e.time head records block (n + 1) formed.did_text formed.did formed.time gives fits
 
 asked_gives : (b : Bool) (n : ℕ) (e : Seen) (f : Found) (timed : Bool) → IsEvent e → FoundGives f → FitsFetched timed (cond b (fetched_as n e f) Fetched.NotAsked)
-    → FetchGives e.did (cond b (fetched_as n e f) Fetched.NotAsked)
+    → HoldsOfWhole (SendsSync e.did) (cond b (fetched_as n e f) Fetched.NotAsked)
 asked_gives true n e f timed read gives fits = made_gives n e f timed read gives fits
 asked_gives false n e f timed read gives fits = tt
 
 fetch_gives : (checks : Checks) (n : ℕ) (a : State) (host : List ℕ) (e : Seen) (o : Outside) → IsEvent e → FoundGives o.fetched → is_taken (decided_event checks n a host e o) ≡ true
-    → FetchGives e.did (decided_event checks n a host e o).fetched
+    → HoldsOfWhole (SendsSync e.did) (decided_event checks n a host e o).fetched
 fetch_gives checks n a host e o read gives =
     elim (refusal_of checks a e o) as (λ q. is_taken (event_taken n host e (decision_for a e.body o.fetched q) (answers checks n a e o)) ≡ true
-    → FetchGives e.did (event_taken n host e (decision_for a e.body o.fetched q) (answers checks n a e o)).fetched) [
+    → HoldsOfWhole (SendsSync e.did) (event_taken n host e (decision_for a e.body o.fetched q) (answers checks n a e o)).fetched) [
       | Some r ↦ λ is. asked_gives (loses (code_of r)) n e o.fetched true read gives (taken_fits (event_taken n host e (decision_for a e.body o.fetched (Some r)) (answers checks n a e o)) is).fetched
       | None ↦ λ is. tt
     ]
 
 -- ---- all rows
 
-taken_gives : (checks : Checks) → OpensRight checks → LinksRight checks → (J : List Row) (host : List ℕ) (f : Frame) (t : Taken) (others : List Message) → AreEvents ((host, Ok f) ∷ others) → FoundGives (found_in t.fetched) → is_taken t ≡ true → IsMadeBy checks J (host, Ok f) (Row.Taken t) → GivesItsHead J (Row.Taken t)
+taken_gives : (checks : Checks) → OpensRight checks → LinksRight checks → (J : List Row) (host : List ℕ) (f : Frame) (t : Taken) (others : List Message) → AreEvents ((host, Ok f) ∷ others) → FoundGives (found_in t.fetched) → is_taken t ≡ true → IsMadeBy checks J (host, Ok f) (Row.Taken t) → SendsWhatItKeeps J (Row.Taken t)
 taken_gives checks opens links J host (Frame.Event e) t others read gives is made =
-    let P : Taken → Type 0 = λ s. is_taken s ≡ true → GivesItsHead J (Row.Taken s) in
+    let P : Taken → Type 0 = λ s. is_taken s ≡ true → SendsWhatItKeeps J (Row.Taken s) in
     let n = last_seq J in
     let a = account e.did J in
-    subst P (taken_is (decided_event checks n a host e (shown t)) t made) (λ formed. (event_gives checks opens links n a host e (shown t) read.0 formed, fetch_gives checks n a host e (shown t) read.0 gives formed)) is
+    subst P (taken_is (decided_event checks n a host e (shown t)) t made) (λ formed.
+    let made_taken = decided_event checks n a host e (shown t) in
+    (both_sent a.repo made_taken made_taken.effect (event_reads checks n a host e (shown t) read.0 formed) (event_gives checks opens links n a host e (shown t) read.0 formed), fetch_gives checks n a host e (shown t) read.0 gives formed)) is
 taken_gives checks opens links J host (Frame.Faulty seq) t others read gives is made =
-    let P : Taken → Type 0 = λ s. GivesItsHead J (Row.Taken s) in
-    subst P (taken_is (faulty_taken host seq (Some (shown t).moment)) t made) (tt, tt)
+    let P : Taken → Type 0 = λ s. SendsWhatItKeeps J (Row.Taken s) in
+    subst P (taken_is (faulty_taken host seq (Some (shown t).moment)) t made) ((λ some. absurd (some refl)), tt)
 taken_gives checks opens links J host Frame.Info t others read gives is made = absurd cc
 taken_gives checks opens links J host Frame.Error t others read gives is made = absurd cc
 taken_gives checks opens links J host Frame.Unknown t others read gives is made = absurd cc
 
-row_gives : (checks : Checks) → OpensRight checks → LinksRight checks → (J : List Row) (m : Message) (others : List Message) (row : Row) → is_row row ≡ true → AreEvents (m ∷ others) → FetchesGive (row ∷ []) → IsMadeBy checks J m row → GivesItsHead J row
+row_gives : (checks : Checks) → OpensRight checks → LinksRight checks → (J : List Row) (m : Message) (others : List Message) (row : Row) → is_row row ≡ true → AreEvents (m ∷ others) → FetchesGive (row ∷ []) → IsMadeBy checks J m row → SendsWhatItKeeps J row
 unfolding is_row
 row_gives checks opens links J (host, Ok f) others (Row.Taken t) is read gives made = taken_gives checks opens links J host f t others read gives.0 is made
 row_gives checks opens links J (host, Ok f) others (Row.Synced name whole moment) is read gives made = absurd made
@@ -162,12 +178,12 @@ given_first (Row.Operated o) rows h = (tt, h)
 given_first (Row.Carried c) rows h = (tt, h)
 
 abbrev Gives : Checks → List Message → Type 0
-Gives checks messages = (J : List Row) (ended : List (List ℕ)) (rows : List Row) → IsJournal (J ++ rows) → FetchesGive rows → RunFrom checks J ended messages rows → GiveHeads J rows
+Gives checks messages = (J : List Row) (ended : List (List ℕ)) (rows : List Row) → IsJournal (J ++ rows) → FetchesGive rows → RunFrom checks J ended messages rows → SendWhatTheyKeep J rows
 
 turned : (checks : Checks) → OpensRight checks → LinksRight checks → (m : Message) (messages : List Message) → AreEvents (m ∷ messages) → Gives checks messages → (J : List Row) (ended : List (List ℕ)) (rows : List Row) (b : Bool) (p : Option Pass) → IsJournal (J ++ rows) → FetchesGive rows
     → Turn b p (RunFrom checks J (m.0 ∷ ended) messages rows) (RunFrom checks J ended messages rows)
     ((row : Row) × (others : List Row) × (rows ≡ row ∷ others) × IsMadeBy checks J m row × RunFrom checks (J ++ row ∷ []) ended messages others)
-    → GiveHeads J rows
+    → SendWhatTheyKeep J rows
 turned checks opens links m messages read gives J ended rows true p journal given h = gives J ended rows journal given h
 turned checks opens links m messages read gives J ended rows false (Some Pass.Ended) journal given h = gives J (m.0 ∷ ended) rows journal given h
 turned checks opens links m messages read gives J ended rows false (Some Pass.Old) journal given h = gives J ended rows journal given h
@@ -175,7 +191,7 @@ turned checks opens links m messages read gives J ended rows false (Some Pass.Un
 turned checks opens links m messages read gives J ended rows false (Some Pass.Info) journal given h = gives J ended rows journal given h
 turned checks opens links m messages read gives J ended rows false None journal given (row, others, is, made, run) =
     let IsJournalOf : List Row → Type 0 = λ R. IsJournal R in
-    let P : List Row → Type 0 = λ R. GiveHeads J R in
+    let P : List Row → Type 0 = λ R. SendWhatTheyKeep J R in
     let G : List Row → Type 0 = λ R. FetchesGive R in
     let parts = given_first row others (subst G is given) in
     let longer = subst IsJournalOf (ap (λ (R : List Row). J ++ R) is ∙ sym (append_assoc J (row ∷ []) others)) journal in
@@ -183,9 +199,9 @@ turned checks opens links m messages read gives J ended rows false None journal 
     subst P (sym is) (row_gives checks opens links J m messages row formed read parts.0 made, gives (J ++ row ∷ []) ended others longer parts.1 run)
 
 run_gives : (checks : Checks) → OpensRight checks → LinksRight checks → (messages : List Message) → AreEvents messages → Gives checks messages
-run_gives checks opens links [] read J ended rows journal given h = subst (λ (R : List Row). GiveHeads J R) (sym h) tt
+run_gives checks opens links [] read J ended rows journal given h = subst (λ (R : List Row). SendWhatTheyKeep J R) (sym h) tt
 run_gives checks opens links (m ∷ messages) read J ended rows journal given h =
     turned checks opens links m messages read (run_gives checks opens links messages (later_events m messages read)) J ended rows (has_ended ended m.0) (skipped_by J m) journal given h
 
-pub runs_give : RunsGiveHeads
-runs_give checks opens links J messages rows read journal given run = run_gives checks opens links messages read J [] rows journal given run
+pub runs_faithful : RunsAreFaithful
+runs_faithful checks opens links J messages rows read journal given run = run_gives checks opens links messages read J [] rows journal given run

@@ -40,9 +40,9 @@ use Rattle.relay_core.specs.Decide.{commit_car, sync_message, whole_under}
 use Rattle.relay_core.specs.Opening.{IsHeadOf}
 use Rattle.relay_core.specs.Operating.{operated_as, operated_message}
 use Rattle.relay_core.specs.Rows.{kind_number}
-use Rattle.relay_law.specs.Faithful.{ReadsAs, IsFaithful, IsFaithfulWhole, IsCommandOf, IsSyncAt}
-use Rattle.relay_law.specs.Heads.{BlockGives, GivesItsHead, WholeGives}
-use Rattle.relay_law.specs.Laws.{OperatorsAreFaithful, synced_row}
+use Rattle.relay_law.specs.Faithful.{ReadsAs, IsCommandOf, IsReadBack, SendsRev, SendsSync, SendsWhatItKeeps}
+use Rattle.relay_law.specs.Heads.{BlockGives}
+use Rattle.relay_law.specs.Laws.{OperatorsAreFaithful, operated_row, synced_row}
 use Rattle.relay_law.proofs.Blocks.{own_head}
 
 -- ---- the blocks in a message that is a byte string are one
@@ -115,15 +115,16 @@ says_more : (message did : List ℕ) (seq : ℕ) (P Q : Body → Type 0) → ((b
 says_more message did seq P Q more r = record { event = r.event; reads = r.reads; did_is = r.did_is; seq_is = r.seq_is; says = more r.event.body r.says }
 
 pub whole_reads : (did time : List ℕ) (head : Head) (records : ℕ) (block : List ℕ) (n : ℕ) → IsText did → is_did did ≡ true → IsShortText time → is_whole (whole_under did time head records block n) ≡ true
-    → IsFaithfulWhole did (whole_under did time head records block n)
+    → SendsRev did (whole_under did time head records block n)
 whole_reads did time head records block n text is short formed =
     let w = whole_under did time head records block n in
     let own = own_reads did time head records block n text is short formed in
-    says_more w.message did n (λ (b : Body). b ≡ Body.Sync (own_sync did head block)) (λ (b : Body). IsSyncAt w b) (λ b same. (own_sync did head block, same, refl)) own.sent
+    let P : Body → Type 0 = λ b. (sync : SyncEvent) × (b ≡ Body.Sync sync) × (sync.rev ≡ w.head.rev) in
+    says_more w.message did n (λ (b : Body). b ≡ Body.Sync (own_sync did head block)) P (λ b same. (own_sync did head block, same, refl)) own.sent
 
 -- where its block gives the head, its message does
 pub whole_gives : (did time : List ℕ) (head : Head) (records : ℕ) (block : List ℕ) (n : ℕ) → IsText did → is_did did ≡ true → IsShortText time → BlockGives head block
-    → is_whole (whole_under did time head records block n) ≡ true → WholeGives did (whole_under did time head records block n)
+    → is_whole (whole_under did time head records block n) ≡ true → SendsSync did (whole_under did time head records block n)
 whole_gives did time head records block n text is short gives formed =
     let w = whole_under did time head records block n in
     let own = own_reads did time head records block n text is short formed in
@@ -208,8 +209,8 @@ word_reads a did false time n moment status text is short below o same =
       says = (record { active = a.active; status = a.status }, refl, λ down. absurd (false≢true down));
     })
 
-operated_reads : (J : List Row) (did : List ℕ) (down : Bool) (time : List ℕ) (moment : Option ℕ) → IsShortText time → IsJournal (J ++ Row.Operated (operated_as (last_seq J) (account did J) did down time moment) ∷ [])
-    → IsFaithful (Row.Operated (operated_as (last_seq J) (account did J) did down time moment))
+operated_reads : (J : List Row) (did : List ℕ) (down : Bool) (time : List ℕ) (moment : Option ℕ) → IsShortText time → IsJournal (J ++ operated_row J did down time moment ∷ [])
+    → SendsWhatItKeeps J (operated_row J did down time moment)
 unfolding is_row is_operated
 operated_reads J did down time moment short journal =
     let o = operated_as (last_seq J) (account did J) did down time moment in
@@ -236,13 +237,13 @@ synced_well J did time head records block moment journal =
     record { text = named.0; named = named.1; whole = (and_parts (is_whole w) (is_moment moment) one.1).0 }
 
 synced_reads : (J : List Row) (did time : List ℕ) (head : Head) (records : ℕ) (block : List ℕ) (moment : Option ℕ) → IsShortText time → IsJournal (J ++ synced_row J did time head records block moment ∷ [])
-    → IsFaithful (synced_row J did time head records block moment)
+    → IsReadBack (synced_row J did time head records block moment)
 synced_reads J did time head records block moment short journal =
     let well = synced_well J did time head records block moment journal in
     whole_reads did time head records block (last_seq J + 1) well.text well.named short well.whole
 
 pub synced_gives : (J : List Row) (did time : List ℕ) (head : Head) (records : ℕ) (block : List ℕ) (moment : Option ℕ) → IsShortText time → BlockGives head block
-    → IsJournal (J ++ synced_row J did time head records block moment ∷ []) → GivesItsHead J (synced_row J did time head records block moment)
+    → IsJournal (J ++ synced_row J did time head records block moment ∷ []) → SendsWhatItKeeps J (synced_row J did time head records block moment)
 synced_gives J did time head records block moment short gives journal =
     let well = synced_well J did time head records block moment journal in
     whole_gives did time head records block (last_seq J + 1) well.text well.named short gives well.whole

@@ -31,8 +31,8 @@ use Rattle.relay_law.specs.Calls.{SayWhatCallsAnswer, as_read}
 use Rattle.relay_law.specs.Carried.{AreOfKnown, CarriesOver}
 use Rattle.relay_law.specs.Chains.{chains}
 use Rattle.relay_law.specs.Covered.{IsCovered}
-use Rattle.relay_law.specs.Faithful.{IsFaithful, AreFaithful}
-use Rattle.relay_law.specs.Heads.{BlockGives, FetchesGive, GiveHeads, IsFaithfulJournal}
+use Rattle.relay_law.specs.Faithful.{AreReadBack, IsFaithfulJournal, IsReadBack, SendsWhatItKeeps, SendWhatTheyKeep}
+use Rattle.relay_law.specs.Heads.{BlockGives, FetchesGive}
 use Rattle.relay_law.specs.Formed.{IsReadFrame, AreAnswersFor, AreFormedFor, IsFormedFound}
 use Rattle.relay_law.specs.Histories.{Point, LivesFrom, AllCome}
 use Rattle.relay_law.specs.Merges.{Merge, OneHome, Agree}
@@ -116,25 +116,30 @@ CoveredAreAccepted = (checks : Checks) → OpensRight checks → LinksRight chec
     → t.refusal ≡ (if o.home then (if o.verdict then None else Some Refusal.BadSignature)
     else Some Refusal.NotHome)
 
--- The rows that operators' commands make are faithful, whatever the time is that they bear, if it
--- is a short text.
+-- the row of an operator's command, and that of a repository that an operator had fetched
+abbrev pub operated_row : List Row → List ℕ → Bool → List ℕ → Option ℕ → Row
+operated_row J did down time moment =
+    Row.Operated (operated_as (last_seq J) (account did J) did down time moment)
+
+abbrev pub synced_row : List Row → List ℕ → List ℕ → Head → ℕ → List ℕ → Option ℕ → Row
+synced_row J did time head records block moment =
+    Row.Synced did (whole_under did time head records block (last_seq J + 1)) moment
+
+-- The rows that operators' commands make send what they keep, whatever the time is that they bear,
+-- if it is a short text; that of a repository that was fetched is read back, whatever its block.
 pub record OperatorsAreFaithful : Type 0 where
   pub operated : (J : List Row) (did : List ℕ) (down : Bool) (time : List ℕ) (moment : Option ℕ)
-      → IsShortText time
-      → IsJournal (J ++ Row.Operated (operated_as (last_seq J) (account did J) did down time moment)
-      ∷ [])
-      → IsFaithful (Row.Operated (operated_as (last_seq J) (account did J) did down time moment))
+      → IsShortText time → IsJournal (J ++ operated_row J did down time moment ∷ [])
+      → SendsWhatItKeeps J (operated_row J did down time moment)
   pub synced : (J : List Row) (did time : List ℕ) (head : Head) (records : ℕ) (block : List ℕ)
       (moment : Option ℕ) → IsShortText time
-      → IsJournal (J ++ Row.Synced did
-      (whole_under did time head records block (last_seq J + 1)) moment ∷ [])
-      → IsFaithful (Row.Synced did (whole_under did time head records block
-      (last_seq J + 1)) moment)
+      → IsJournal (J ++ synced_row J did time head records block moment ∷ [])
+      → IsReadBack (synced_row J did time head records block moment)
 
--- The rows of a run are faithful.
-abbrev pub RunsAreFaithful : Type 0
-RunsAreFaithful = (checks : Checks) (J : List Row) (messages : List Message) (rows : List Row)
-    → AreEvents messages → IsJournal (J ++ rows) → Run checks J messages rows → AreFaithful rows
+-- The rows of a run are read back, whatever the checks.
+abbrev pub RunsAreReadBack : Type 0
+RunsAreReadBack = (checks : Checks) (J : List Row) (messages : List Message) (rows : List Row)
+    → AreEvents messages → IsJournal (J ++ rows) → Run checks J messages rows → AreReadBack rows
 
 -- No run accepts a commit of an account that was lost, as long as the checks are right.
 abbrev pub RunsFollowKnown : Type 0
@@ -197,27 +202,18 @@ SyncedRowsAreFormed = (J : List Row) (did time : List ℕ) (head : Head) (record
     → IsJournal (J ++ Row.Synced did (whole_under did time head records block (last_seq J + 1))
     (Some moment) ∷ [])
 
--- A run of right checks, and so a store's, gives the heads that its rows keep, as long as what was
+-- The rows of a run of right checks, and so of a store's, send what they keep, as long as what was
 -- fetched was given by its blocks.
-abbrev pub RunsGiveHeads : Type 0
-RunsGiveHeads = (checks : Checks) → OpensRight checks → LinksRight checks
+abbrev pub RunsAreFaithful : Type 0
+RunsAreFaithful = (checks : Checks) → OpensRight checks → LinksRight checks
     → (J : List Row) (messages : List Message) (rows : List Row)
     → AreEvents messages → IsJournal (J ++ rows) → FetchesGive rows → Run checks J messages rows
-    → GiveHeads J rows
+    → SendWhatTheyKeep J rows
 
 -- a run of each checks that open and link rightly gives these rows, whatever bytes the hosts sent
 abbrev pub IsRightRun : List Row → List (List ℕ × List ℕ) → List Row → Type 0
 IsRightRun J sent rows =
     (checks : Checks) → OpensRight checks → LinksRight checks → Run checks J (as_read sent) rows
-
--- the row of an operator's command, and that of a repository that an operator had fetched
-abbrev pub operated_row : List Row → List ℕ → Bool → List ℕ → Option ℕ → Row
-operated_row J did down time moment =
-    Row.Operated (operated_as (last_seq J) (account did J) did down time moment)
-
-abbrev pub synced_row : List Row → List ℕ → List ℕ → Head → ℕ → List ℕ → Option ℕ → Row
-synced_row J did time head records block moment =
-    Row.Synced did (whole_under did time head records block (last_seq J + 1)) moment
 
 -- The journals that a relay writes are faithful: the empty one; what a store's run adds, whatever
 -- bytes the hosts sent and whatever was answered, as long as the block of each repository that was

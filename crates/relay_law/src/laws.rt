@@ -1,6 +1,6 @@
 //! The laws of journals, each the contract of a function that does nothing.
 
-ghost use Rattle.relay_law.specs.Laws.{CallsAnswerRight, CarriedStaySound, ChecksAreRight, CoveredAreAccepted, DecidedRowsAreFormed, FrontsAreSound, JournalsComeOn, JournalsStayFaithful, MadeRowsAreFormed, MergesAgree, OperatedRowsAreFormed, OperatorsAreFaithful, OperatorsStaySound, RunsAreFaithful, RunsFollowKnown, RunsGiveHeads, RunsStaySound, SentAreEvents, SomeChecksAreRight, SoundReplays, StoresStaySound, SyncedRowsAreFormed};
+ghost use Rattle.relay_law.specs.Laws.{CallsAnswerRight, CarriedStaySound, ChecksAreRight, CoveredAreAccepted, DecidedRowsAreFormed, FrontsAreSound, JournalsComeOn, JournalsStayFaithful, MadeRowsAreFormed, MergesAgree, OperatedRowsAreFormed, OperatorsAreFaithful, OperatorsStaySound, RunsAreFaithful, RunsAreReadBack, RunsFollowKnown, RunsStaySound, SentAreEvents, SomeChecksAreRight, SoundReplays, StoresStaySound, SyncedRowsAreFormed};
 ghost use Rattle.relay_law.specs.Needed.{PremisesAreNeeded};
 
 /// A run behind a sound journal leaves a sound journal.
@@ -59,8 +59,8 @@ pub fn covered_are_accepted()
 {}
 
 /// What the rows of a run send out is read as the events that they tell of, under the numbers that they got.
-pub fn runs_are_faithful()
-    ensures { RunsAreFaithful }
+pub fn runs_are_read_back()
+    ensures { RunsAreReadBack }
 {}
 
 /// What the rows that operators' commands make send out is read as what they say, under the numbers that they got.
@@ -108,9 +108,9 @@ pub fn premises_are_needed()
     ensures { PremisesAreNeeded }
 {}
 
-/// The rows of a run give the heads that they keep.
-pub fn runs_give_heads()
-    ensures { RunsGiveHeads }
+/// What the rows of a run send out is read as what they keep, with the heads that they keep.
+pub fn runs_are_faithful()
+    ensures { RunsAreFaithful }
 {}
 
 /// The journals that a relay writes are faithful.

@@ -1,7 +1,6 @@
 -- The rows of operators' commands leave a journal of which each row is given such a one, and so does a cut.
 use Rattle.std.proofs.Common.{◌≡◌, ℕ, List, [], ◌∷◌, ◌++◌, Bool, true, false, Option, Some, None, IsTrue, refl, sym, subst}
 use Rattle.std.proofs.lemmas.List.{append-nil}
-use Rattle.at_cid.specs.Link.{IsBytes}
 use Rattle.at_authority.specs.Panels.{Panel}
 use Rattle.at_event.specs.Formed.{IsShortText}
 use Rattle.at_event.specs.declared.refusal.Refusal.{Refusal}
@@ -20,7 +19,7 @@ use Rattle.relay_step.specs.Commands.{OperatedAt, SyncedAt, rows_commanded}
 use Rattle.relay_step.specs.Fetching.{AreBytes, told_where}
 use Rattle.relay_step.specs.Operators.{IsOperated, IsSyncedBy, IsSyncedNow}
 use Rattle.relay_step.specs.declared.command.CommandAnswer.{CommandAnswer}
-use Rattle.chain_law.specs.Made.{GiveBytes, IsOfBytes}
+use Rattle.chain_law.specs.Made.{GiveBytes}
 use Rattle.chain_law.proofs.Journals.{cut_given}
 use Rattle.chain_law.proofs.Making.{joined_given, operated_given, synced_given}
 
@@ -40,21 +39,17 @@ operated_gives bytes told core J did down time moments left short holds command 
 
 -- ---- a repository that is fetched
 
-of_bytes : (repository : Option (List ℕ)) → AreBytes repository → IsOfBytes repository
-of_bytes None are bytes is = absurd cc
-of_bytes (Some b) are bytes is = let same : b ≡ bytes = cc in subst IsBytes same are
-
 -- some repository, which is bytes, comes to the same
 record OfSome (refusal : Option Refusal) (old : Panel) (J : List Row) (did time : List ℕ) (moment : ℕ) (command : CommandAnswer) (new : Panel) : Type 0 where
   repository : Option (List ℕ)
-  bytes : IsOfBytes repository
+  bytes : AreBytes repository
   by : IsSyncedBy refusal old J did time moment (Some repository) command new
 
 untold : (refusal : Option Refusal) (old : Panel) (J : List Row) (did time : List ℕ) (moment : ℕ) (command : CommandAnswer) (new : Panel) → IsSyncedBy refusal old J did time moment None command new → OfSome refusal old J did time moment command new
-untold (Some r) old J did time moment command new by = record { repository = None; bytes = λ bytes is. absurd cc; by = by }
+untold (Some r) old J did time moment command new by = record { repository = None; bytes = tt; by = by }
 untold None old J did time moment command new by =
     let from = by.fetch.fetched in
-    record { repository = from.0; bytes = of_bytes from.0 from.1; by = record { found = by.found; fetch = record { calls = by.fetch.calls; fetched = from.2; made = by.fetch.made }; command_is = by.command_is } }
+    record { repository = from.0; bytes = from.1; by = record { found = by.found; fetch = record { calls = by.fetch.calls; fetched = from.2; made = by.fetch.made }; command_is = by.command_is } }
 
 told_or_not : (tells : Bool) (repository : List ℕ → Option (List ℕ)) (old : Panel) (J : List Row) (did time : List ℕ) (moment : ℕ) (command : CommandAnswer) (new : Panel) → (IsTrue tells → GiveBytes repository)
     → IsSyncedNow old J did time moment (told_where tells (repository did)) command new → OfSome (sync_refusal (account did J)) old J did time moment command new

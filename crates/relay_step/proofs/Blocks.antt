@@ -1,5 +1,5 @@
 -- What steps and operators' commands fetched is a head that its block gives.
-use Rattle.std.proofs.Common.{◌≡◌, ℕ, Bool, true, false, ◌&&◌, ◌||◌, List, [], ◌∷◌, ◌++◌, Option, Some, None, Result, Ok, Err, sym, ◌∙◌, subst}
+use Rattle.std.proofs.Common.{◌≡◌, ℕ, Bool, true, false, ◌&&◌, ◌||◌, List, [], ◌∷◌, ◌++◌, Option, Some, None, Result, Ok, Err, sym, ap, ◌∙◌, subst}
 use Rattle.std.specs.List.{list_all}
 use Rattle.std.specs.Bool.{beq}
 use Rattle.std.specs.Prelude.{nat_le, ◌==◌, if◌then◌else◌}
@@ -17,37 +17,35 @@ use Rattle.account_state.specs.Folds.{account, last_rev}
 use Rattle.repo_sync.specs.Repository.{IsAnswer}
 use Rattle.repo_sync.specs.declared.fault.RepoFault.{RepoFault}
 use Rattle.repo_sync.specs.declared.found.Found.{Found as Checked}
-use Rattle.relay_core.specs.Decide.{Found, absent, unfit, found}
+use Rattle.relay_core.specs.Decide.{Found, unfit, found}
 use Rattle.relay_core.specs.Shown.{found_in, or_zero}
 use Rattle.relay_core.specs.Table.{is_ahead}
-use Rattle.relay_core.specs.declared.limits.TheConstants.{FETCHED_AHEAD, FETCHED_UNSIGNED}
+use Rattle.relay_core.specs.declared.limits.TheConstants.{FETCHED_UNSIGNED}
 use Rattle.relay_law.specs.Heads.{FetchesGive, FoundGives}
 use Rattle.relay_law.proofs.Blocks.{whole_block}
 use Rattle.relay_law.proofs.Sounding.{decided_formed}
+use Rattle.relay_step.proofs.Fetched.{by_ahead}
 use Rattle.relay_step.specs.Around.{Around, AllAsked}
-use Rattle.relay_step.specs.Fetching.{IsFetched, IsFetchedAs, IsFetchedFrom, IsFetchedTold, found_by, is_good, told_where}
+use Rattle.relay_step.specs.Fetching.{IsFetched, IsFetchedAs, IsFetchedFrom, IsFetchedTold, found_and_asked, told_where}
 use Rattle.relay_io.specs.Choices.{WhereElse}
 use Rattle.relay_step.specs.Steps.{Decided, Step, after_end, skipped, recorded, rows, rows_decided}
 
 -- ---- one fetch
 
-answer_gives : (did : List ℕ) (least : Option ℕ) (moment : ℕ) (good : Bool) (bytes : List ℕ) (answer : Result Checked RepoFault) → IsAnswer did least bytes answer → FoundGives (found_by moment good answer)
+answer_gives : (did : List ℕ) (least : Option ℕ) (moment : ℕ) (good : Bool) (bytes : List ℕ) (answer : Result Checked RepoFault) → IsAnswer did least bytes answer → FoundGives (found_and_asked did moment good answer).0
 answer_gives did least moment good bytes (Err fault) is = tt
 answer_gives did least moment good bytes (Ok checked) is =
-    let judged_good : Bool → Found = λ b. if b then found checked.head checked.records checked.block else unfit FETCHED_UNSIGNED in
-    elim (is_ahead checked.head.rev (Some moment)) as (λ b. FoundGives (if b then unfit FETCHED_AHEAD else judged_good good)) [
-      | true ↦ tt
-      | false ↦ elim good as (λ b. FoundGives (judged_good b)) [ true ↦ whole_block did least bytes checked is | false ↦ tt ]
-    ]
+    by_ahead (is_ahead checked.head.rev (Some moment)) _ _ (λ came. FoundGives came.0) tt
+    (elim good as (λ b. FoundGives (if b then found checked.head checked.records checked.block else unfit FETCHED_UNSIGNED)) [ true ↦ whole_block did least bytes checked is | false ↦ tt ])
 
-from_gives : (repository : Option (List ℕ)) (did : List ℕ) (least : Option ℕ) (moment : ℕ) (good : Bool) (f : Found) (calls : List Call) → IsFetchedFrom repository did least moment good f calls → FoundGives f
-from_gives None did least moment good f calls from = subst (λ (x : Found). FoundGives x) (sym from.0) tt
-from_gives (Some bytes) did least moment good f calls from =
-    subst (λ (x : Found). FoundGives x) (sym from.found_is) (answer_gives did least moment good bytes from.answer from.is)
+from_gives : (repository : Option (List ℕ)) (did : List ℕ) (least : Option ℕ) (moment : ℕ) (f : Found) (calls : List Call) → IsFetchedFrom repository did least moment f calls → FoundGives f
+from_gives None did least moment f calls from = subst (λ (x : Found). FoundGives x) (sym from.0) tt
+from_gives (Some bytes) did least moment f calls (answer, good, is, came) =
+    subst (λ (x : Found). FoundGives x) (ap (λ (x : Found × List Call). x.0) came) (answer_gives did least moment good bytes answer is)
 
 pub fetched_gives : (o : Option (Option (List ℕ))) (did : List ℕ) (least : Option ℕ) (moment : ℕ) (f : Found) (calls : List Call) → IsFetchedAs o did least moment f calls → FoundGives f
-fetched_gives (Some repository) did least moment f calls from = from_gives repository did least moment (is_good f) f calls from
-fetched_gives None did least moment f calls (some, bytes, from) = from_gives some did least moment (is_good f) f calls from
+fetched_gives (Some repository) did least moment f calls from = from_gives repository did least moment f calls from
+fetched_gives None did least moment f calls (some, bytes, from) = from_gives some did least moment f calls from
 
 -- ---- the fetch behind a refusal
 

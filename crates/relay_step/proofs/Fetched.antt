@@ -2,7 +2,7 @@
 use Rattle.std.proofs.Common.{◌≡◌, ℕ, ◌+◌, ◌<◌, ◌≤◌, ◌^◌, ◌-◌, min, Bool, true, false, cond, List, [], ◌∷◌, Option, Some, None, Ok, Err, refl, sym, ap, ◌∙◌, subst, arith}
 use Rattle.std.specs.Prelude.{IsTrue}
 use Rattle.std.specs.FinMap as map
-use Rattle.at_authority.specs.Calls.{Call, answers, IsCall, AreCalls}
+use Rattle.at_authority.specs.Calls.{Call, answers, IsCall}
 use Rattle.at_authority.specs.Panels.{Panel}
 use Rattle.at_authority.specs.Queries.{asks_verdict}
 use Rattle.at_car.specs.Blocks.{BlockMap, IsLinkOf}
@@ -11,11 +11,10 @@ use Rattle.at_car.specs.Sifting.{block_at}
 use Rattle.at_car.specs.Standing.{root_of}
 use Rattle.at_cid.specs.Link.{IsBytes}
 use Rattle.at_cid.specs.Order.{key_cmp}
-use Rattle.at_event.specs.declared.head.Head.{Head}
 use Rattle.event_checks.specs.Opening.{IsFound, block_in, object_in_block, read_object, root_in}
 use Rattle.relay_io.specs.Repositories.{IsOpened}
 use Rattle.relay_row.specs.Rules.{is_head}
-use Rattle.relay_core.specs.Decide.{Found, absent, unfit, found, judged}
+use Rattle.relay_core.specs.Decide.{Found, absent, unfit, found}
 use Rattle.relay_core.specs.Table.{is_ahead}
 use Rattle.relay_core.specs.declared.limits.TheConstants.{FETCHED_AHEAD, FETCHED_UNSIGNED}
 use Rattle.relay_law.proofs.Heads.{found_head}
@@ -26,8 +25,8 @@ use Rattle.repo_sync.specs.declared.fault.RepoFault.{RepoFault}
 use Rattle.repo_sync.specs.declared.found.Found.{Found as Checked}
 use Rattle.repo_sync.proofs.Linked.{car_linked}
 use Rattle.relay_step.specs.Commands.{IsJudged}
-use Rattle.relay_step.specs.Fetches.{IsOfBytes, MayBeKept, judged_as, refused_as}
-use Rattle.relay_step.specs.Fetching.{AnsweredFetch, AreBytes, IsFetchedAs, IsFetchedFrom, IsFoundOf, found_by, is_good, told_where, verdict_on}
+use Rattle.relay_step.specs.Fetches.{IsJudgedAs, IsOfBytes, MayBeKept, judged_as, refused_as}
+use Rattle.relay_step.specs.Fetching.{AnsweredFetch, AreBytes, IsFetchedAs, IsFetchedFrom, told_where}
 
 -- ---- what the bytes of a repository hold
 
@@ -103,23 +102,23 @@ refused_is RepoFault.BadSignature n h = (refl, cc)
 
 -- ---- what is found
 
-fetched_none : (o : Option (List ℕ)) (left did : List ℕ) (least : Option ℕ) (moment : ℕ) (good : Bool) → IsOpened o false left → IsFetchedFrom o did least moment good absent []
-fetched_none None left did least moment good is = (refl, refl)
-fetched_none (Some bytes) left did least moment good is = absurd (false_true is.0)
+fetched_none : (o : Option (List ℕ)) (left did : List ℕ) (least : Option ℕ) (moment : ℕ) → IsOpened o false left → IsFetchedFrom o did least moment absent []
+fetched_none None left did least moment is = (refl, refl)
+fetched_none (Some bytes) left did least moment is = absurd (false_true is.0)
   where
     false_true : ◌≡◌ {A = Bool} false true → ⊥
     false_true h = absurd cc
 
-opened_as : (o : Option (List ℕ)) (left did : List ℕ) (least : Option ℕ) (moment : ℕ) (good : Bool) (f : Found) (calls : List Call) → IsOpened o true left → IsFoundOf did least moment good left f calls → IsFetchedFrom o did least moment good f calls
-opened_as None left did least moment good f calls is found_is = absurd (true_false is.0)
+opened_as : (o : Option (List ℕ)) (left did : List ℕ) (least : Option ℕ) (moment : ℕ) (f : Found) (calls : List Call) → IsOpened o true left → IsFetchedFrom (Some left) did least moment f calls → IsFetchedFrom o did least moment f calls
+opened_as None left did least moment f calls is from = absurd (true_false is.0)
   where
     true_false : ◌≡◌ {A = Bool} true false → ⊥
     true_false h = absurd cc
-opened_as (Some bytes) left did least moment good f calls is found_is = let P : List ℕ → Type 0 = λ b. IsFoundOf did least moment good b f calls in subst P is.1 found_is
+opened_as (Some bytes) left did least moment f calls is from = let P : List ℕ → Type 0 = λ b. IsFetchedFrom (Some b) did least moment f calls in subst P is.1 from
 
 -- of the repository that is told, or else of some
-fetched_as_told : (tells : Bool) (o some : Option (List ℕ)) (did : List ℕ) (least : Option ℕ) (moment : ℕ) (f : Found) (calls : List Call) → (IsTrue tells → IsFetchedFrom o did least moment (is_good f) f calls) → AreBytes some
-    → IsFetchedFrom some did least moment (is_good f) f calls → IsFetchedAs (told_where tells o) did least moment f calls
+fetched_as_told : (tells : Bool) (o some : Option (List ℕ)) (did : List ℕ) (least : Option ℕ) (moment : ℕ) (f : Found) (calls : List Call) → (IsTrue tells → IsFetchedFrom o did least moment f calls) → AreBytes some
+    → IsFetchedFrom some did least moment f calls → IsFetchedAs (told_where tells o) did least moment f calls
 fetched_as_told true o some did least moment f calls told are from = told refl
 fetched_as_told false o some did least moment f calls told are from = (some, are, from)
 
@@ -130,26 +129,23 @@ module _ (tells : Bool) (o : Option (List ℕ)) (left did : List ℕ) (least : O
   pub absent_fetched : is_open ≡ false → (old : Panel) → AnsweredFetch (told_where tells o) did least moment old absent old
   absent_fetched same old = record {
     calls = [];
-    fetched = fetched_as_told tells o None did least moment absent [] (λ told. fetched_none o left did least moment true (opened_at false same told)) tt (refl, refl);
+    fetched = fetched_as_told tells o None did least moment absent [] (λ told. fetched_none o left did least moment (opened_at false same told)) tt (refl, refl);
     made = refl;
   }
 
   -- what the bytes come to, told and untold
-  found_fetched : is_open ≡ true → (f : Found) (calls : List Call) (bytes : List ℕ) → IsBytes bytes → (IsTrue tells → IsFoundOf did least moment (is_good f) left f calls) → IsFoundOf did least moment (is_good f) bytes f calls
+  found_fetched : is_open ≡ true → (f : Found) (calls : List Call) (bytes : List ℕ) → IsBytes bytes → (IsTrue tells → IsFetchedFrom (Some left) did least moment f calls) → IsFetchedFrom (Some bytes) did least moment f calls
       → IsFetchedAs (told_where tells o) did least moment f calls
   found_fetched same f calls bytes are told some =
-      fetched_as_told tells o (Some bytes) did least moment f calls (λ t. opened_as o left did least moment (is_good f) f calls (opened_at true same t) (told t)) are some
+      fetched_as_told tells o (Some bytes) did least moment f calls (λ t. opened_as o left did least moment f calls (opened_at true same t) (told t)) are some
 
   pub judged_fetched : is_open ≡ true → (old new : Panel) (checked : Checked) (number : Option ℕ) → (IsTrue tells → IsWhole did least left checked) → IsOfBytes did least checked
-      → judged_as checked number ≡ found_by moment (is_good (judged_as checked number)) (Ok checked) → AreCalls old (verdict_on did moment (is_good (judged_as checked number)) (Ok checked)) new
-      → (as_told : Option ℕ) → number ≡ as_told → AnsweredFetch (told_where tells o) did least moment old (judged_as checked as_told) new
-  judged_fetched same old new checked number whole of is made as_told told_is =
-      let f = judged_as checked number in
-      let calls = verdict_on did moment (is_good f) (Ok checked) in
+      → IsJudgedAs did moment checked (judged_as checked number) old new → (as_told : Option ℕ) → number ≡ as_told → AnsweredFetch (told_where tells o) did least moment old (judged_as checked as_told) new
+  judged_fetched same old new checked number whole of is as_told told_is =
       subst (λ (n : Option ℕ). AnsweredFetch (told_where tells o) did least moment old (judged_as checked n) new) told_is (record {
-        calls = calls;
-        fetched = found_fetched same f calls of.bytes of.are (λ told. record { answer = Ok checked; is = whole told; found_is = is; asked = refl }) (record { answer = Ok checked; is = of.whole; found_is = is; asked = refl });
-        made = made;
+        calls = is.calls;
+        fetched = found_fetched same (judged_as checked number) is.calls of.bytes of.are (λ told. (Ok checked, is.good, whole told, is.is)) (Ok checked, is.good, of.whole, is.is);
+        made = is.made;
       })
 
   -- a verdict is asked on it
@@ -167,32 +163,38 @@ module _ (tells : Bool) (o : Option (List ℕ)) (left did : List ℕ) (least : O
       → AnsweredFetch (told_where tells o) did least moment old (unfit n) old
   refused_fetched same fault n bytes old h are some told =
       let both = refused_is fault n h in
-      let at : (b : List ℕ) → IsRefused did least b fault → IsFoundOf did least moment (is_good (unfit n)) b (unfit n) [] =
-      λ b is. record { answer = Err fault; is = answer_of did least b fault both.0 is; found_is = ap unfit both.1; asked = refl } in
+      let at : (b : List ℕ) → IsRefused did least b fault → IsFetchedFrom (Some b) did least moment (unfit n) [] =
+      λ b is. (Err fault, true, answer_of did least b fault both.0 is, ap (λ (k : ℕ). (unfit k, [])) (sym both.1)) in
       record { calls = []; fetched = found_fetched same (unfit n) [] bytes are (λ t. at left (told t)) (at bytes some); made = refl }
 
--- ---- what is asked of the judges
+-- ---- what is judged, and asked
 
-pub calls_ahead : (did : List ℕ) (moment : ℕ) (good : Bool) (checked : Checked) (old : Panel) → is_ahead checked.head.rev (Some moment) ≡ true → AreCalls old (verdict_on did moment good (Ok checked)) old
-calls_ahead did moment good checked old h =
-    let P : Bool → Type 0 = λ b. AreCalls old (cond b [] (answers (asks_verdict did checked.digest checked.sig) good ∷ [])) old in
-    subst P (sym h) refl
+pub judged_ahead : (did : List ℕ) (moment : ℕ) (checked : Checked) (old : Panel) → is_ahead checked.head.rev (Some moment) ≡ true → IsJudgedAs did moment checked (unfit FETCHED_AHEAD) old old
+judged_ahead did moment checked old h = record {
+  calls = [];
+  good = true;
+  is = ap (λ b. cond {A = Found × List Call} b (unfit FETCHED_AHEAD, []) (found checked.head checked.records checked.block, answers (asks_verdict did checked.digest checked.sig) true ∷ [])) h;
+  made = refl;
+}
 
-pub calls_near : (did : List ℕ) (moment : ℕ) (good told : Bool) (checked : Checked) (sig : List ℕ) (old new : Panel) → is_ahead checked.head.rev (Some moment) ≡ false → told ≡ good → sig ≡ checked.sig
-    → IsCall (answers (asks_verdict did checked.digest sig) told) old new → AreCalls old (verdict_on did moment good (Ok checked)) new
-calls_near did moment good told checked sig old new h same signed call =
-    let P : Bool → Type 0 = λ b. AreCalls old (cond b [] (answers (asks_verdict did checked.digest checked.sig) good ∷ [])) new in
+pub judged_near : (did : List ℕ) (moment : ℕ) (good told : Bool) (checked : Checked) (sig : List ℕ) (old new : Panel) → is_ahead checked.head.rev (Some moment) ≡ false → told ≡ good → sig ≡ checked.sig
+    → IsCall (answers (asks_verdict did checked.digest sig) told) old new → IsJudgedAs did moment checked (cond good (found checked.head checked.records checked.block) (unfit FETCHED_UNSIGNED)) old new
+judged_near did moment good told checked sig old new h same signed call =
+    let f : Found = cond good (found checked.head checked.records checked.block) (unfit FETCHED_UNSIGNED) in
+    let calls : List Call = answers (asks_verdict did checked.digest checked.sig) good ∷ [] in
     let Q : List ℕ → Type 0 = λ s. IsCall (answers (asks_verdict did checked.digest s) told) old new in
     let R : Bool → Type 0 = λ b. IsCall (answers (asks_verdict did checked.digest checked.sig) b) old new in
-    subst P (sym h) (new, subst R same (subst Q signed call), refl)
+    record {
+      calls = calls;
+      good = good;
+      is = ap (λ b. cond {A = Found × List Call} b (unfit FETCHED_AHEAD, []) (f, calls)) h;
+      made = (new, subst R same (subst Q signed call), refl);
+    }
 
--- ---- what is judged
-
-pub judged_ahead : (moment : ℕ) (good : Bool) (head : Head) (records : ℕ) (block : List ℕ) → is_ahead head.rev (Some moment) ≡ true → unfit FETCHED_AHEAD ≡ judged moment good head records block
-judged_ahead moment good head records block h = sym (ap (λ b. cond b (unfit FETCHED_AHEAD) (cond good (found head records block) (unfit FETCHED_UNSIGNED))) h)
-
-pub judged_near : (moment : ℕ) (good : Bool) (head : Head) (records : ℕ) (block : List ℕ) → is_ahead head.rev (Some moment) ≡ false → cond good (found head records block) (unfit FETCHED_UNSIGNED) ≡ judged moment good head records block
-judged_near moment good head records block h = sym (ap (λ b. cond b (unfit FETCHED_AHEAD) (cond good (found head records block) (unfit FETCHED_UNSIGNED))) h)
+-- what holds of what is found and asked, by whether the revision is far ahead
+pub by_ahead : (ahead : Bool) (x y : Found × List Call) (P : Found × List Call → Type 0) → P x → P y → P (cond ahead x y)
+by_ahead true x y P one two = one
+by_ahead false x y P one two = two
 
 -- ---- counts
 

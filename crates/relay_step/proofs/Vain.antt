@@ -2,8 +2,7 @@
 use Rattle.std.proofs.Common.{◌≡◌, ℕ, ◌≤◌, inl, inr, Bool, true, false, cond, List, [], ◌∷◌, ◌++◌, length, Option, Some, None, Result, Ok, Err, refl, sym, ap, ◌∙◌, subst, arith}
 use Rattle.std.specs.Prelude.{OnErr, IfOk, IfErr}
 use Rattle.std.specs.List.{filter}
-use Rattle.at_authority.specs.Calls.{Call, answers, fails, IsCall, AreCalls}
-use Rattle.at_authority.specs.Queries.{asks_verdict}
+use Rattle.at_authority.specs.Calls.{Call, fails, IsCall, AreCalls}
 use Rattle.at_authority.specs.Panels.{Panel}
 use Rattle.at_authority.proofs.Runs.{join}
 use Rattle.at_event.specs.Seen.{Seen}
@@ -18,7 +17,8 @@ use Rattle.relay_core.specs.declared.decision.Next.{Next}
 use Rattle.relay_step.specs.Causes.{IsCause, OneTaken}
 use Rattle.relay_step.specs.Fetches.{AskedPlain}
 use Rattle.relay_step.specs.declared.fault.StepFault.{StepFault}
-use Rattle.relay_step.specs.Fetching.{AnsweredFetch, IsFetchedAs, IsFetchedFrom, is_good, verdict_on}
+use Rattle.relay_step.specs.Fetching.{AnsweredFetch, IsFetchedAs, IsFetchedFrom, found_and_asked}
+use Rattle.relay_step.proofs.Fetched.{by_ahead}
 use Rattle.relay_step.specs.Questions.{IsTimedSo, calls_told, home_told, is_fetch, is_last, refresh_told, verdict_told}
 
 about_joined : (did : List ℕ) (xs ys : List Call) → AllAbout did xs → AllAbout did ys → AllAbout did (xs ++ ys)
@@ -83,21 +83,18 @@ IsPlain did calls = AllAbout did calls × (filter is_refresh calls ≡ [])
 none_plain : (did : List ℕ) (calls : List Call) → calls ≡ [] → IsPlain did calls
 none_plain did calls is = subst (IsPlain did) (sym is) (tt, refl)
 
-verdict_plain : (did : List ℕ) (moment : ℕ) (good : Bool) (answer : Result Checked RepoFault) → IsPlain did (verdict_on did moment good answer)
+verdict_plain : (did : List ℕ) (moment : ℕ) (good : Bool) (answer : Result Checked RepoFault) → IsPlain did (found_and_asked did moment good answer).1
 verdict_plain did moment good (Ok checked) =
-    elim (is_ahead checked.head.rev (Some moment)) as (λ b. IsPlain did (cond b [] (answers (asks_verdict did checked.digest checked.sig) good ∷ []))) [
-      | true ↦ (tt, refl)
-      | false ↦ ((refl, tt), refl)
-    ]
+    by_ahead (is_ahead checked.head.rev (Some moment)) _ _ (λ came. IsPlain did came.1) (tt, refl) ((refl, tt), refl)
 verdict_plain did moment good (Err fault) = (tt, refl)
 
-from_plain : (o : Option (List ℕ)) (did : List ℕ) (least : Option ℕ) (moment : ℕ) (good : Bool) (f : Found) (calls : List Call) → IsFetchedFrom o did least moment good f calls → IsPlain did calls
-from_plain None did least moment good f calls is = none_plain did calls is.1
-from_plain (Some bytes) did least moment good f calls is = subst (IsPlain did) (sym is.asked) (verdict_plain did moment good is.answer)
+from_plain : (o : Option (List ℕ)) (did : List ℕ) (least : Option ℕ) (moment : ℕ) (f : Found) (calls : List Call) → IsFetchedFrom o did least moment f calls → IsPlain did calls
+from_plain None did least moment f calls is = none_plain did calls is.1
+from_plain (Some bytes) did least moment f calls (answer, good, is, came) = subst (IsPlain did) (ap (λ (x : Found × List Call). x.1) came) (verdict_plain did moment good answer)
 
 found_plain : (o : Option (Option (List ℕ))) (did : List ℕ) (least : Option ℕ) (moment : ℕ) (f : Found) (calls : List Call) → IsFetchedAs o did least moment f calls → IsPlain did calls
-found_plain (Some o) did least moment f calls is = from_plain o did least moment (is_good f) f calls is
-found_plain None did least moment f calls (some, are, from) = from_plain some did least moment (is_good f) f calls from
+found_plain (Some o) did least moment f calls is = from_plain o did least moment f calls is
+found_plain None did least moment f calls (some, are, from) = from_plain some did least moment f calls from
 
 pub plain_fetch : (o : Option (Option (List ℕ))) (did : List ℕ) (least : Option ℕ) (moment : ℕ) (old : Panel) (f : Found) (new : Panel) → AnsweredFetch o did least moment old f new → AskedPlain old did new
 plain_fetch o did least moment old f new is = let both = found_plain o did least moment f is.calls is.fetched in record { calls = is.calls; about = both.0; plain = both.1; made = is.made }

@@ -1,5 +1,5 @@
 -- What a fetch found, as rows and the relay's own events need it (own).
-use Rattle.std.specs.Prelude.{◌≡◌, ⊤, ℕ, ◌+◌, ◌<◌, ◌^◌, true, List, [], length, Option, Some, None}
+use Rattle.std.specs.Prelude.{◌≡◌, ⊤, ℕ, ◌+◌, ◌<◌, ◌^◌, Bool, true, List, [], length, Option, Some, None, Ok}
 use Rattle.std.specs.List.{filter}
 use Rattle.at_authority.specs.Calls.{Call, AreCalls}
 use Rattle.at_authority.specs.Panels.{Panel}
@@ -16,6 +16,7 @@ use Rattle.repo_sync.specs.Faults.{fault_number}
 use Rattle.repo_sync.specs.declared.fault.RepoFault.{RepoFault}
 use Rattle.repo_sync.specs.declared.found.Found.{Found as Checked}
 use Rattle.relay_step.specs.Asked.{AllAbout, is_refresh}
+use Rattle.relay_step.specs.Fetching.{found_and_asked}
 use Rattle.relay_step.specs.declared.fetching.FoundRepo.{FoundRepo}
 
 abbrev pub found_as : FoundRepo → Found
@@ -27,6 +28,14 @@ found_as (FoundRepo.Fit checked) = found checked.head checked.records checked.bl
 abbrev pub judged_as : Checked → Option ℕ → Found
 judged_as checked None = found checked.head checked.records checked.block
 judged_as checked (Some n) = unfit n
+
+-- It was judged between these panels, and this is found.
+pub record IsJudgedAs (did : List ℕ) (moment : ℕ) (checked : Checked) (f : Found)
+    (old new : Panel) : Type 0 where
+  pub calls : List Call
+  pub good : Bool
+  pub is : found_and_asked did moment good (Ok checked) ≡ (f, calls)
+  pub made : AreCalls old calls new
 
 -- the number with which a repository is refused, unless memory ran out or a read failed
 abbrev pub refused_as : RepoFault → Option ℕ

@@ -1,5 +1,5 @@
 -- What the fetch of a repository finds, and what it asks of the judges (own).
-use Rattle.std.specs.Prelude.{◌≡◌, ⊤, ℕ, Bool, true, false, List, [], ◌∷◌, Option, Some, None, Result, Ok, Err, ◌==◌, not, if◌then◌else◌}
+use Rattle.std.specs.Prelude.{◌≡◌, ⊤, ℕ, Bool, List, [], ◌∷◌, Option, Some, None, Result, Ok, Err, if◌then◌else◌}
 use Rattle.at_authority.specs.Calls.{Call, answers, AreCalls}
 use Rattle.at_authority.specs.Panels.{Panel}
 use Rattle.at_authority.specs.Queries.{asks_verdict}
@@ -10,50 +10,34 @@ use Rattle.relay_io.specs.Choices.{WhereElse}
 use Rattle.relay_row.specs.Rules.{loses}
 use Rattle.relay_row.specs.declared.row.Row.{Row}
 use Rattle.account_state.specs.Folds.{account, last_rev}
-use Rattle.relay_core.specs.Decide.{Found, absent, unfit, found, judged}
+use Rattle.relay_core.specs.Decide.{Found, absent, unfit, found}
 use Rattle.relay_core.specs.Shown.{found_in, or_zero}
 use Rattle.relay_core.specs.Table.{is_ahead}
-use Rattle.relay_core.specs.declared.limits.TheConstants.{FETCHED_UNSIGNED}
+use Rattle.relay_core.specs.declared.limits.TheConstants.{FETCHED_AHEAD, FETCHED_UNSIGNED}
 use Rattle.repo_sync.specs.Faults.{fault_number}
 use Rattle.repo_sync.specs.Repository.{IsAnswer}
 use Rattle.repo_sync.specs.declared.fault.RepoFault.{RepoFault}
 use Rattle.repo_sync.specs.declared.found.Found.{Found as Checked}
-use Rattle.relay_step.specs.Steps.{Decided, after_end, skipped, recorded}
+use Rattle.relay_step.specs.Steps.{Decided, recorded}
 
--- what the answer of a repository's check comes to at a moment, where its signature is said to be
--- good or not
-abbrev pub found_by : ℕ → Bool → Result Checked RepoFault → Found
-found_by moment good (Ok checked) = judged moment good checked.head checked.records checked.block
-found_by moment good (Err fault) = unfit (fault_number fault)
-
--- what is asked about it: the signature of a commit whose repository is whole, and whose revision
--- isn't far ahead
-abbrev pub verdict_on : List ℕ → ℕ → Bool → Result Checked RepoFault → List Call
-verdict_on did moment good (Ok checked) =
-    if is_ahead checked.head.rev (Some moment) then []
-    else answers (asks_verdict did checked.digest checked.sig) good ∷ []
-verdict_on did moment good (Err fault) = []
-
--- the bytes of a repository come to this, and this is asked
-pub record IsFoundOf (did : List ℕ) (least : Option ℕ) (moment : ℕ) (good : Bool) (bytes : List ℕ)
-    (f : Found) (calls : List Call) : Type 0 where
-  pub answer : Result Checked RepoFault
-  pub is : IsAnswer did least bytes answer
-  pub found_is : f ≡ found_by moment good answer
-  pub asked : calls ≡ verdict_on did moment good answer
+-- What is found, and what is asked of the judges, by the answer of a repository's check: one that
+-- is at fault is refused unasked, and so is one whose revision is far ahead of the moment; of
+-- another the judges say whether its signature is good.
+abbrev pub found_and_asked : List ℕ → ℕ → Bool → Result Checked RepoFault → Found × List Call
+found_and_asked did moment good (Err fault) = (unfit (fault_number fault), [])
+found_and_asked did moment good (Ok checked) =
+    if is_ahead checked.head.rev (Some moment) then (unfit FETCHED_AHEAD, [])
+    else (
+      if good then found checked.head checked.records checked.block else unfit FETCHED_UNSIGNED,
+      answers (asks_verdict did checked.digest checked.sig) good ∷ [],
+    )
 
 -- The fetch of a DID that has this repository, or none, comes to this, and this is asked.
-abbrev pub IsFetchedFrom : Option (List ℕ) → List ℕ → Option ℕ → ℕ → Bool → Found → List Call
-    → Type 0
-IsFetchedFrom None did least moment good f calls = (f ≡ absent) × (calls ≡ [])
-IsFetchedFrom (Some bytes) did least moment good f calls =
-    IsFoundOf did least moment good bytes f calls
-
--- a bad signature where what was found says so, else a good one
-abbrev pub is_good : Found → Bool
-is_good absent = true
-is_good (unfit n) = not (n == FETCHED_UNSIGNED)
-is_good (found head records block) = true
+abbrev pub IsFetchedFrom : Option (List ℕ) → List ℕ → Option ℕ → ℕ → Found → List Call → Type 0
+IsFetchedFrom None did least moment f calls = (f ≡ absent) × (calls ≡ [])
+IsFetchedFrom (Some bytes) did least moment f calls = (answer : Result Checked RepoFault)
+    × (good : Bool) × IsAnswer did least bytes answer
+    × (found_and_asked did moment good answer ≡ (f, calls))
 
 -- what is told, where it is
 abbrev pub told_where : {A : Type 0} → Bool → A → Option A
@@ -67,10 +51,10 @@ AreBytes (Some bytes) = IsBytes bytes
 abbrev pub IsFetchedAs : Option (Option (List ℕ)) → List ℕ → Option ℕ → ℕ → Found → List Call
     → Type 0
 IsFetchedAs (Some repository) did least moment f calls =
-    IsFetchedFrom repository did least moment (is_good f) f calls
+    IsFetchedFrom repository did least moment f calls
 IsFetchedAs None did least moment f calls =
     (repository : Option (List ℕ)) × AreBytes repository
-    × IsFetchedFrom repository did least moment (is_good f) f calls
+    × IsFetchedFrom repository did least moment f calls
 
 -- a fetch between these panels
 pub record AnsweredFetch (repository : Option (Option (List ℕ))) (did : List ℕ) (least : Option ℕ)
@@ -92,7 +76,6 @@ IsFetched repos_tell repository J did (Some r) moment f calls = WhereElse (loses
 -- the same of what came of a message
 abbrev pub IsFetchedTold : Bool → (List ℕ → Option (List ℕ)) → List Row → Decided → List Call
     → Type 0
-IsFetchedTold repos_tell repository J after_end calls = calls ≡ []
-IsFetchedTold repos_tell repository J (skipped pass) calls = calls ≡ []
 IsFetchedTold repos_tell repository J (recorded t) calls =
     IsFetched repos_tell repository J t.did t.refusal (or_zero t.moment) (found_in t.fetched) calls
+IsFetchedTold repos_tell repository J other calls = calls ≡ []

@@ -1,9 +1,8 @@
 //! The fetch of an account's repository.
 
-ghost use Rattle.std.specs.Prelude.{◌≡◌, ◌≢◌, ◌+◌, ◌≤◌, ◌<◌, ℕ, Option, Some, Ok, Err, true, false, IsTrue, IfOk, IfErr, OnOk, OnErr};
+ghost use Rattle.std.specs.Prelude.{◌≡◌, ◌≢◌, ◌+◌, ◌≤◌, ◌<◌, ℕ, Option, Some, Err, true, false, IsTrue, IfOk, IfErr, OnOk, OnErr};
 ghost use Rattle.at_cid.specs.Counts.{Rose};
 ghost use Rattle.at_syntax.specs.Did.{is_did, method_of};
-ghost use Rattle.at_authority.specs.Calls.{AreCalls};
 ghost use Rattle.at_authority.specs.Panels.{IsSpent};
 ghost use Rattle.at_car.specs.Blocks.{IsLinkOf};
 ghost use Rattle.relay_row.specs.Rules.{is_message};
@@ -13,8 +12,8 @@ ghost use Rattle.relay_core.specs.Table.{is_ahead};
 ghost use Rattle.relay_step.specs.Around.{SameRepositories};
 ghost use Rattle.relay_step.specs.Causes.{IsCause, SpendsNone};
 ghost use Rattle.relay_step.specs.Commands.{IsJudged};
-ghost use Rattle.relay_step.specs.Fetches.{AskedPlain, IsOfBytes, IsSent, IsTyped, MayBeKept, found_as, judged_as, made_of, refused_as};
-ghost use Rattle.relay_step.specs.Fetching.{AnsweredFetch, found_by, is_good, told_where, verdict_on};
+ghost use Rattle.relay_step.specs.Fetches.{AskedPlain, IsJudgedAs, IsOfBytes, IsSent, IsTyped, MayBeKept, found_as, judged_as, made_of, refused_as};
+ghost use Rattle.relay_step.specs.Fetching.{AnsweredFetch, told_where};
 ghost use Rattle.relay_step.specs.declared.fault.StepFault.{StepFault as Fault};
 
 use crate::fault::StepFault;
@@ -53,11 +52,8 @@ fn judge_found<P: Judges>(
     requires did { IsTrue (is_did did.now) }
     requires whole { (least : Option ℕ) × IsOfBytes did.now least found.now }
     requires records { found.now.records < NUMBERS }
-    ensures asked { IfOk result (λ number.
-        AreCalls (P.panel judges.old) (verdict_on did.now moment
-        (is_good (judged_as found.now number)) (Ok found.now)) (P.panel judges.new)) }
-    ensures judged { IfOk result (λ number. judged_as found.now number
-        ≡ found_by moment (is_good (judged_as found.now number)) (Ok found.now)) }
+    ensures judged { IfOk result (λ number. IsJudgedAs did.now moment found.now
+        (judged_as found.now number) (P.panel judges.old) (P.panel judges.new)) }
     ensures may { IfOk result (λ number. MayBeKept (judged_as found.now number)) }
     ensures in_vain { OnErr result (AskedPlain (P.panel judges.old) did.now (P.panel judges.new)) }
     ensures caused { IfErr result (IsCause ⊥ ((is_ahead found.now.head.rev (Some moment) ≡ false)

@@ -6,7 +6,7 @@ use Rattle.relay_row.specs.Journal.{IsJournal}
 use Rattle.relay_row.specs.declared.row.Row.{Row}
 use Rattle.relay_core.specs.Decide.{Checks}
 use Rattle.relay_core.specs.Opening.{OpensRight}
-use Rattle.relay_law.specs.Heads.{IsFaithfulJournal}
+use Rattle.relay_law.specs.Faithful.{IsFaithfulJournal}
 use Rattle.relay_law.specs.Right.{LinksRight}
 use Rattle.relay_law.specs.Sound.{IsSound}
 use Rattle.chain_law.specs.Given.{AreGiven}

@@ -1,10 +1,19 @@
 -- What reading leaves of a store's disk (own).
-use Rattle.std.proofs.Common.{◌≡◌, Bool, List, subst, sym}
+use Rattle.std.proofs.Common.{◌≡◌, ℕ, Bool, List, subst, sym}
 use Rattle.std.specs.Prelude.{IsTrue}
 use Rattle.relay_disk.specs.Disk.{View, Goes, Same, IsDisk}
 use Rattle.relay_disk.proofs.Moments.{still_again, still_here}
+use Rattle.gate_log.specs.Log.{HoldsBodies as HasBodies, IsOn, LogState}
 use Rattle.relay_row.specs.declared.row.Row.{Row}
 use Rattle.relay_store.specs.Store.{StoreState, Keeps}
+
+-- Reading left the disk of a log as it was, but for counts and moments: the log still holds what it
+-- held, and is on that disk.
+pub record LeftAsRead (tells : Bool) (log : LogState) (v w : View) : Type 0 where
+  pub goes : Goes Same v w
+  pub holds : IsTrue tells → (bodies : List (List ℕ)) → HasBodies bodies log v
+      → HasBodies bodies log w
+  pub on : IsTrue tells → IsOn w log
 
 -- Reading left the disk as it was, but for counts and moments: it still has each journal that the
 -- store has.

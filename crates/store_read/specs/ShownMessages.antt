@@ -8,7 +8,7 @@ use Rattle.relay_row.specs.Folds.{events}
 use Rattle.relay_row.specs.declared.row.Row.{Row}
 use Rattle.account_state.specs.Folds.{account}
 use Rattle.relay_core.specs.Rows.{kind_number}
-use Rattle.relay_law.specs.Heads.{IsFaithfulJournal}
+use Rattle.relay_law.specs.Faithful.{IsFaithfulJournal}
 use Rattle.relay_store.specs.Shown.{is_hidden, shown_of}
 
 -- a commit or a sync isn't shown where its account, as the journal J stands, is hidden

@@ -3,7 +3,6 @@
 ghost use Rattle.std.specs.Prelude.{◌≡◌, ◌≢◌, ◌≤◌, ◌<◌, ◌+◌, ◌^◌, ◌++◌, ◌∷◌, ◌⊎◌, ◌↔◌, [], ℕ, List, length, drop, Some, None, Err, true, false, IsTrue, IfOk, IfSome, OnOk, OnErr, option_map};
 ghost use Rattle.std.specs.List.{list_all};
 ghost use Rattle.at_cid.specs.Counts.{Rose};
-ghost use Rattle.relay_disk.specs.Disk.{Goes, Same};
 ghost use Rattle.event_window.specs.declared.fault.EventsFault.{EventsFault};
 ghost use Rattle.gate_log.specs.Image.{made};
 ghost use Rattle.gate_log.specs.declared.fault.LogFault.{LogFault};
@@ -14,6 +13,7 @@ ghost use Rattle.relay_row.specs.declared.row.Row.{Row as TheRow};
 ghost use Rattle.row_peek.specs.Peeked.{Sees};
 ghost use Rattle.row_peek.specs.Peeking.{peeked_at, seen};
 ghost use Rattle.store_read.specs.Events.{BeginsNext, EndsThere, IsBufferOf};
+ghost use Rattle.store_read.specs.Rereading.{LeftAsRead};
 ghost use Rattle.relay_store.specs.Journals.{AllBodies, bytes_of};
 
 use at_cbor::take_list_front;
@@ -149,10 +149,7 @@ fn rows_at<D: Disk>(
         → IsBody there (rows_body there)
         → HasBodies (bytes_of (before ++ there ∷ after)) log.now (D.view disk.old)
         → place ≡ length (made log.now.format (bytes_of before)) → ⊥ }
-    ensures goes { Goes Same (D.view disk.old) (D.view disk.new) }
-    ensures holds { IsTrue D.tells → (bodies : List (List ℕ))
-        → HasBodies bodies log.now (D.view disk.old) → HasBodies bodies log.now (D.view disk.new) }
-    ensures on { IsTrue D.tells → IsOn (D.view disk.new) log.now }
+    ensures as_read { LeftAsRead D.tells log.now (D.view disk.old) (D.view disk.new) }
     ensures steady { OnOk result ((D.view disk.new).faults ≡ (D.view disk.old).faults) }
     ensures no_fault { OnErr result ((result ≡ Err EventsFault.Disk → ⊥)
         → (D.view disk.new).faults ≡ (D.view disk.old).faults) }
@@ -210,11 +207,7 @@ impl Buffer {
             → IsBody there (rows_body there)
             → HasBodies (bytes_of (before ++ there ∷ after)) log.now (D.view disk.old)
             → place ≡ length (made log.now.format (bytes_of before)) → ⊥ }
-        ensures goes { Goes Same (D.view disk.old) (D.view disk.new) }
-        ensures holds { IsTrue D.tells → (bodies : List (List ℕ))
-            → HasBodies bodies log.now (D.view disk.old)
-            → HasBodies bodies log.now (D.view disk.new) }
-        ensures on { IsTrue D.tells → IsOn (D.view disk.new) log.now }
+        ensures as_read { LeftAsRead D.tells log.now (D.view disk.old) (D.view disk.new) }
         ensures steady { OnOk result ((D.view disk.new).faults ≡ (D.view disk.old).faults) }
         ensures no_fault { OnErr result ((result ≡ Err EventsFault.Disk → ⊥)
             → (D.view disk.new).faults ≡ (D.view disk.old).faults) }

@@ -2,7 +2,6 @@
 
 ghost use Rattle.std.specs.Prelude.{◌≡◌, ◌≤◌, ◌<◌, ◌^◌, ◌++◌, ◌∷◌, [], ℕ, List, length, true, Err, IsTrue, IfOk, IfSome, OnOk, OnErr};
 ghost use Rattle.at_cid.specs.Counts.{Rose};
-ghost use Rattle.relay_disk.specs.Disk.{Goes, Same};
 ghost use Rattle.event_window.specs.Held.{damage_after};
 ghost use Rattle.event_window.specs.declared.fault.EventsFault.{EventsFault};
 ghost use Rattle.gate_log.specs.Image.{made};
@@ -14,6 +13,7 @@ ghost use Rattle.relay_row.specs.declared.row.Row.{Row as TheRow};
 ghost use Rattle.relay_core.specs.Entries.{Holds};
 ghost use Rattle.relay_store.specs.Events.{AllStand, IsFirst, StandsAt, message_of};
 ghost use Rattle.store_read.specs.Events.{IsBufferOf, IsReadAs, IsReadOf, IsToldOf};
+ghost use Rattle.store_read.specs.Rereading.{LeftAsRead};
 ghost use Rattle.relay_store.specs.Journals.{AllBodies, bytes_of};
 ghost use Rattle.relay_store.specs.Shown.{shown_of};
 
@@ -80,10 +80,7 @@ fn refill_body<D: Disk>(
         → IsBody there (rows_body there)
         → HasBodies (bytes_of (before ++ there ∷ after)) log.now (D.view disk.old)
         → place.place ≡ length (made log.now.format (bytes_of before)) → ⊥ }
-    ensures goes { Goes Same (D.view disk.old) (D.view disk.new) }
-    ensures holds { IsTrue D.tells → (bodies : List (List ℕ))
-        → HasBodies bodies log.now (D.view disk.old) → HasBodies bodies log.now (D.view disk.new) }
-    ensures on { IsTrue D.tells → IsOn (D.view disk.new) log.now }
+    ensures as_read { LeftAsRead D.tells log.now (D.view disk.old) (D.view disk.new) }
     ensures steady { OnOk result ((D.view disk.new).faults ≡ (D.view disk.old).faults) }
     ensures no_fault { OnErr result ((result ≡ Err EventsFault.Disk → ⊥)
         → (D.view disk.new).faults ≡ (D.view disk.old).faults) }
@@ -115,10 +112,7 @@ fn refill_to<D: Disk>(
         → AllBodies bodies → HasBodies (bytes_of bodies) log.now (D.view disk.old)
         → IsBufferOf log.now.format bodies buffer.old
         → StandsAt log.now.format bodies place row → ⊥ }
-    ensures goes { Goes Same (D.view disk.old) (D.view disk.new) }
-    ensures holds { IsTrue D.tells → (bodies : List (List ℕ))
-        → HasBodies bodies log.now (D.view disk.old) → HasBodies bodies log.now (D.view disk.new) }
-    ensures on { IsTrue D.tells → IsOn (D.view disk.new) log.now }
+    ensures as_read { LeftAsRead D.tells log.now (D.view disk.old) (D.view disk.new) }
     ensures steady { OnOk result ((D.view disk.new).faults ≡ (D.view disk.old).faults) }
     ensures no_fault { OnErr result ((result ≡ Err EventsFault.Disk → ⊥)
         → (D.view disk.new).faults ≡ (D.view disk.old).faults) }
@@ -158,10 +152,7 @@ fn copy_shown_at<D: Disk>(
         → AllBodies bodies → HasBodies (bytes_of bodies) log.now (D.view disk.old)
         → IsBufferOf log.now.format bodies buffer.old
         → StandsAt log.now.format bodies place row → ⊥ }
-    ensures goes { Goes Same (D.view disk.old) (D.view disk.new) }
-    ensures holds { IsTrue D.tells → (bodies : List (List ℕ))
-        → HasBodies bodies log.now (D.view disk.old) → HasBodies bodies log.now (D.view disk.new) }
-    ensures on { IsTrue D.tells → IsOn (D.view disk.new) log.now }
+    ensures as_read { LeftAsRead D.tells log.now (D.view disk.old) (D.view disk.new) }
     ensures steady { OnOk result ((D.view disk.new).faults ≡ (D.view disk.old).faults) }
     ensures no_fault { OnErr result ((result ≡ Err EventsFault.Disk → ⊥)
         → (D.view disk.new).faults ≡ (D.view disk.old).faults) }
@@ -209,10 +200,7 @@ fn tell_shown_at<D: Disk>(
         → AllBodies bodies → HasBodies (bytes_of bodies) log.now (D.view disk.old)
         → IsBufferOf log.now.format bodies buffer.old
         → StandsAt log.now.format bodies place row → ⊥ }
-    ensures goes { Goes Same (D.view disk.old) (D.view disk.new) }
-    ensures holds { IsTrue D.tells → (bodies : List (List ℕ))
-        → HasBodies bodies log.now (D.view disk.old) → HasBodies bodies log.now (D.view disk.new) }
-    ensures on { IsTrue D.tells → IsOn (D.view disk.new) log.now }
+    ensures as_read { LeftAsRead D.tells log.now (D.view disk.old) (D.view disk.new) }
     ensures steady { OnOk result ((D.view disk.new).faults ≡ (D.view disk.old).faults) }
     ensures no_fault { OnErr result ((result ≡ Err EventsFault.Disk → ⊥)
         → (D.view disk.new).faults ≡ (D.view disk.old).faults) }
@@ -255,9 +243,7 @@ pub(crate) fn find_shown<D: Disk>(
         → AllBodies bodies → HasBodies (bytes_of bodies) log.now (D.view disk.old)
         → IsBufferOf log.now.format bodies buffer.old
         → AllStand log.now.format bodies places.now rows → ⊥ }
-    ensures goes { Goes Same (D.view disk.old) (D.view disk.new) }
-    ensures holds { IsTrue D.tells → (bodies : List (List ℕ))
-        → HasBodies bodies log.now (D.view disk.old) → HasBodies bodies log.now (D.view disk.new) }
+    ensures as_read { LeftAsRead D.tells log.now (D.view disk.old) (D.view disk.new) }
     ensures steady { OnOk result ((D.view disk.new).faults ≡ (D.view disk.old).faults) }
     ensures no_fault { OnErr result ((result ≡ Err EventsFault.Disk → ⊥)
         → (D.view disk.new).faults ≡ (D.view disk.old).faults) }

@@ -30,7 +30,8 @@ use Rattle.relay_core.specs.declared.answers.Answers.{Answers}
 use Rattle.relay_core.specs.declared.decision.Pass.{Pass}
 use Rattle.relay_law.specs.Calls.{as_read}
 use Rattle.relay_law.specs.Covered.{IsCovered}
-use Rattle.relay_law.specs.Heads.{FetchesGive, IsFaithfulJournal}
+use Rattle.relay_law.specs.Faithful.{IsFaithfulJournal}
+use Rattle.relay_law.specs.Heads.{FetchesGive}
 use Rattle.relay_law.specs.Laws.{IsRightRun}
 use Rattle.relay_law.specs.Right.{LinksRight}
 use Rattle.relay_law.specs.Sound.{IsSound}
@@ -90,7 +91,7 @@ sounds J steps all journal are front others split sound =
     stores_sound J (pairs front) (rows front) is.bytes is.journal sound is.run
 
 -- what was fetched for the steps in front
-fetched_front : (steps others : List Step) → FetchesGive (rows (steps ++ others)) → FetchesGive (rows steps)
+pub fetched_front : (steps others : List Step) → FetchesGive (rows (steps ++ others)) → FetchesGive (rows steps)
 fetched_front [] others h = tt
 fetched_front (s ∷ steps) others h = decided_front s.decided (rows (steps ++ others)) (rows steps) h (fetched_front steps others)
   where

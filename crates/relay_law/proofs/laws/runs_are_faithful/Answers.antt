@@ -1,4 +1,4 @@
-use Rattle.relay_law.proofs.Reading.{runs_faithful}
+use Rattle.relay_law.proofs.Giving.{runs_faithful}
 use Rattle.relay_law.proofs.laws.runs_are_faithful.Goals as goal
 
 pub returns : goal.returns

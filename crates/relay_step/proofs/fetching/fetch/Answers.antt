@@ -31,10 +31,10 @@ pub returns-in-Ok-None-clause-fetched : goal.returns-in-Ok-None-clause-fetched
 returns-in-Ok-None-clause-fetched g c =
     let some = c.in-Ok.ensures.some in
     judged_fetched g.R.Repos.tells (g.R.Repos.repository c.args.repos.now c.args.did.now) (g.R.Repos.left c.open.new.self) c.args.did.now c.args.least c.args.moment c.in-Ok-true.field-0 c.in-Ok-true.ensures.opened c.in-Ok-true.field-0-test (g.P.Judges.panel c.args.judges.now)
-    (g.P.Judges.panel c.judge_found.new.judges) c.in-Ok.found c.in-Ok-None.field-0 c.in-Ok.ensures.whole (record { bytes = some.bytes; are = some.are; whole = some.whole }) c.in-Ok-None.ensures.judged c.in-Ok-None.ensures.asked None c.in-Ok-None.field-0-is
+    (g.P.Judges.panel c.judge_found.new.judges) c.in-Ok.found c.in-Ok-None.field-0 c.in-Ok.ensures.whole (record { bytes = some.bytes; are = some.are; whole = some.whole }) c.in-Ok-None.ensures.judged None c.in-Ok-None.field-0-is
 
 pub returns-in-Ok-Some-clause-fetched : goal.returns-in-Ok-Some-clause-fetched
 returns-in-Ok-Some-clause-fetched g c =
     let some = c.in-Ok.ensures.some in
     judged_fetched g.R.Repos.tells (g.R.Repos.repository c.args.repos.now c.args.did.now) (g.R.Repos.left c.open.new.self) c.args.did.now c.args.least c.args.moment c.in-Ok-true.field-0 c.in-Ok-true.ensures.opened c.in-Ok-true.field-0-test (g.P.Judges.panel c.args.judges.now)
-    (g.P.Judges.panel c.judge_found.new.judges) c.in-Ok.found c.in-Ok-Some.field-0 c.in-Ok.ensures.whole (record { bytes = some.bytes; are = some.are; whole = some.whole }) c.in-Ok-Some.ensures.judged c.in-Ok-Some.ensures.asked (Some c.in-Ok-Some.number) c.in-Ok-Some.field-0-is
+    (g.P.Judges.panel c.judge_found.new.judges) c.in-Ok.found c.in-Ok-Some.field-0 c.in-Ok.ensures.whole (record { bytes = some.bytes; are = some.are; whole = some.whole }) c.in-Ok-Some.ensures.judged (Some c.in-Ok-Some.number) c.in-Ok-Some.field-0-is

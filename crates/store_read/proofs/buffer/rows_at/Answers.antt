@@ -29,3 +29,12 @@ pub returns-in-None-clause-no_bad_log : goal.returns-in-None-clause-no_bad_log
 returns-in-None-clause-no_bad_log g c = λ p is tells before there after body holds here.
     let read = c.in-Ok.ensures.body tells before there after body holds here in
     c.first_row.ensures.none c.in-None.is there (subst (λ (b : List ℕ). IsBody there b) (sym c.as_slice.ensures.value) read.0)
+
+pub returns-in-Err-clause-as_read : goal.returns-in-Err-clause-as_read
+returns-in-Err-clause-as_read g c = record { goes = c.read_body.ensures.goes; holds = c.read_body.ensures.holds; on = c.read_body.ensures.on }
+
+pub returns-in-Some-clause-as_read : goal.returns-in-Some-clause-as_read
+returns-in-Some-clause-as_read g c = record { goes = c.read_body.ensures.goes; holds = c.read_body.ensures.holds; on = c.read_body.ensures.on }
+
+pub returns-in-None-clause-as_read : goal.returns-in-None-clause-as_read
+returns-in-None-clause-as_read g c = record { goes = c.read_body.ensures.goes; holds = c.read_body.ensures.holds; on = c.read_body.ensures.on }

@@ -34,9 +34,9 @@ returns-then-branch-clause-first g c = λ tells bodies J rows each holds of buff
 pub places-preserved : goal.places-preserved
 places-preserved g c = record {
   undamaged = c.in_ok-tell_shown_at.ensures.damaged ∙ c.places.invariant.undamaged;
-  goes = still_again _ _ _ (g.met.D.Disk.is_disk _) c.places.invariant.goes c.tell_shown_at.ensures.goes;
-  holds = λ tells bodies held. c.tell_shown_at.ensures.holds tells bodies (c.places.invariant.holds tells bodies held);
-  on = c.tell_shown_at.ensures.on;
+  goes = still_again _ _ _ (g.met.D.Disk.is_disk _) c.places.invariant.goes c.tell_shown_at.ensures.as_read.goes;
+  holds = λ tells bodies held. c.tell_shown_at.ensures.as_read.holds tells bodies (c.places.invariant.holds tells bodies held);
+  on = c.tell_shown_at.ensures.as_read.on;
   steady = c.in_ok-tell_shown_at.ensures.steady ∙ c.places.invariant.steady;
   within = λ p there. c.places.invariant.within p
       (rest_within (first_of c.places.left.now) (others_of c.places.left.now) c.places.left.now
@@ -79,3 +79,20 @@ returns-in_err-tell_shown_at-clause-damaged g c =
 
 pub returns-then-branch-clause-damaged : goal.returns-then-branch-clause-damaged
 returns-then-branch-clause-damaged g c = c.in_ok-tell_shown_at.ensures.damaged ∙ c.places.invariant.undamaged
+
+pub returns-in_err-tell_shown_at-clause-as_read : goal.returns-in_err-tell_shown_at-clause-as_read
+returns-in_err-tell_shown_at-clause-as_read g c = record {
+  goes = still_again _ _ _ (g.met.D.Disk.is_disk _) c.places.invariant.goes c.tell_shown_at.ensures.as_read.goes;
+  holds = λ tells bodies held. c.tell_shown_at.ensures.as_read.holds tells bodies (c.places.invariant.holds tells bodies held);
+  on = c.tell_shown_at.ensures.as_read.on;
+}
+
+pub returns-then-branch-clause-as_read : goal.returns-then-branch-clause-as_read
+returns-then-branch-clause-as_read g c = record {
+  goes = still_again _ _ _ (g.met.D.Disk.is_disk _) c.places.invariant.goes c.tell_shown_at.ensures.as_read.goes;
+  holds = λ tells bodies held. c.tell_shown_at.ensures.as_read.holds tells bodies (c.places.invariant.holds tells bodies held);
+  on = c.tell_shown_at.ensures.as_read.on;
+}
+
+pub returns-in_default-clause-as_read : goal.returns-in_default-clause-as_read
+returns-in_default-clause-as_read g c = record { goes = c.places.invariant.goes; holds = c.places.invariant.holds; on = c.places.invariant.on }

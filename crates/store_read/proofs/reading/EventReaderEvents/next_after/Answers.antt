@@ -29,7 +29,7 @@ returns-clause-no_bad_log g c = λ place is tells held has.
 pub returns-clause-same : goal.returns-clause-same
 returns-clause-same g c = λ tells held has.
     let keeps = has.1 in
-    still_has has.0 _ _ _ c.find_shown-found.new.buffer held keeps (c.find_shown-found.ensures.holds tells (bytes_of keeps.bodies) keeps.holds) has.2
+    still_has has.0 _ _ _ c.find_shown-found.new.buffer held keeps (c.find_shown-found.ensures.as_read.holds tells (bytes_of keeps.bodies) keeps.holds) has.2
     (c.find_shown-found.ensures.fits tells keeps.bodies keeps.are.each keeps.holds has.3)
 
 pub returns-clause-later : goal.returns-clause-later
@@ -37,8 +37,8 @@ returns-clause-later g c = (
   refl,
   refl,
   record {
-    goes = c.find_shown-found.ensures.goes;
-    keeps = λ tells J keeps. still_kept J _ _ _ keeps (c.find_shown-found.ensures.holds tells (bytes_of keeps.bodies) keeps.holds);
+    goes = c.find_shown-found.ensures.as_read.goes;
+    keeps = λ tells J keeps. still_kept J _ _ _ keeps (c.find_shown-found.ensures.as_read.holds tells (bytes_of keeps.bodies) keeps.holds);
   },
 )
 
@@ -46,3 +46,6 @@ pub returns-clause-read : goal.returns-clause-read
 returns-clause-read g c = IfOk-weaker c.find_shown-found.result _ _
     (λ found kept. read_from_part _ _ c.above-places.ensures.part _ _ found kept)
     c.find_shown-found.ensures.kept
+
+pub returns-clause-counts : goal.returns-clause-counts
+returns-clause-counts g c = c.find_shown-found.ensures.as_read.goes.counts
