@@ -3,6 +3,7 @@ use Rattle.std.specs.Ordering.{nat_cmp, is_lt}
 use Rattle.std.specs.Cmp.Lexicographic.{slice_cmp}
 use Rattle.std.specs.Map.{lookup}
 use Rattle.std.specs.Prelude.{◌≡◌, ℕ, Bool, true, ◌&&◌, List, [], ◌∷◌, ◌++◌, Option, Some, None, if◌then◌else◌}
+use Rattle.std.specs.List.{AllByRecursion}
 use Rattle.std.specs.Option.{is_some, unwrap_or}
 use Rattle.std.specs.Str.{bytes_eq}
 use Rattle.relay_row.specs.declared.row.Row.{Row}
@@ -40,8 +41,7 @@ abbrev pub is_before : List ℕ → List ℕ → Bool
 is_before name other = is_lt (slice_cmp nat_cmp name other)
 
 abbrev pub AllBehind : List ℕ → List Entry → Type 0
-AllBehind did [] = Unit {0}
-AllBehind did (e ∷ es) = (is_before did e.0 ≡ true) × AllBehind did es
+AllBehind did es = AllByRecursion (λ e. is_before did e.0 ≡ true) es
 
 -- each DID stands before all later ones
 abbrev pub IsSorted : List Entry → Type 0

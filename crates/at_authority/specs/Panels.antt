@@ -1,6 +1,7 @@
 -- Who is asked: for each DID method a list of authorities in their order, of which those in front
 -- have fallen.
 use Rattle.std.specs.Prelude.{◌≡◌, ℕ, zero, suc, Bool, true, false, ◌≤◌, ◌<◌, ◌⊎◌, List, [], ◌∷◌, length, drop, map, get_or, Option, if◌then◌else◌}
+use Rattle.std.specs.List.{AllByRecursion}
 use Rattle.std.specs.Str.{bytes_eq}
 use Rattle.at_authority.specs.Queries.{Telling}
 use Rattle.at_authority.specs.Answers.{Rises}
@@ -67,5 +68,4 @@ FirstAt passes (b ∷ others) zero = passes b ≡ true
 FirstAt passes (b ∷ others) (suc i) = (passes b ≡ false) × FirstAt passes others i
 
 abbrev pub NonePasses : {B : Type 0} → (B → Bool) → List B → Type 0
-NonePasses passes [] = Unit {0}
-NonePasses passes (b ∷ others) = (passes b ≡ false) × NonePasses passes others
+NonePasses passes others = AllByRecursion (λ b. passes b ≡ false) others

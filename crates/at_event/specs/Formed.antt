@@ -1,5 +1,6 @@
 -- The forms of an event's fields.
-use Rattle.std.specs.Prelude.{◌≡◌, ⊤, ◌<◌, ◌≤◌, ℕ, List, [], ◌∷◌, length, IsTrue, Option, Some, None}
+use Rattle.std.specs.Prelude.{◌≡◌, ⊤, ◌<◌, ◌≤◌, ℕ, List, length, IsTrue, Option, Some, None}
+use Rattle.std.specs.List.{AllByRecursion}
 use Rattle.at_cid.specs.Link.{IsLinkOrNone, IsNodeLink, IsNodeLinkOrNone}
 use Rattle.at_cbor.specs.Encoding.{IsString, IsText}
 use Rattle.at_syntax.specs.Did.{is_did}
@@ -29,8 +30,7 @@ pub record IsReadOp (op : EventOp) : Type 0 where
   pub prev : IsLinkOrNone op.prev
 
 abbrev pub AreReadOps : List EventOp → Type 0
-AreReadOps [] = ⊤
-AreReadOps (op ∷ ops) = IsReadOp op × AreReadOps ops
+AreReadOps ops = AllByRecursion IsReadOp ops
 
 -- a commit of the account of this DID
 pub record IsCommitOf (did : List ℕ) (event : CommitEvent) : Type 0 where

@@ -1,7 +1,7 @@
 -- A relay behind a relay: what the one sends of its journal, taken as messages of one host, and
 -- what the other makes of it (own).
 use Rattle.std.specs.Prelude.{◌≡◌, ◌≢◌, ⊤, ℕ, Bool, true, false, not, ◌||◌, nat_lt, List, [], ◌∷◌, ◌++◌, map, Option, Some, None, Ok, if◌then◌else◌}
-use Rattle.std.specs.List.{list_all, filter}
+use Rattle.std.specs.List.{AllByRecursion, list_all, filter}
 use Rattle.at_event.specs.Frames.{frame_of}
 use Rattle.at_event.specs.Seen.{Seen}
 use Rattle.at_event.specs.Writing.{out_of}
@@ -116,5 +116,4 @@ pub record IsReadEvent (event : ℕ × List ℕ) : Type 0 where
   pub numbered : seen.seq ≡ event.0
 
 abbrev pub AreReadEvents : List (ℕ × List ℕ) → Type 0
-AreReadEvents [] = ⊤
-AreReadEvents (event ∷ others) = IsReadEvent event × AreReadEvents others
+AreReadEvents others = AllByRecursion IsReadEvent others

@@ -1,5 +1,6 @@
 -- What holds of all mirrors.
-use Rattle.std.specs.Prelude.{◌≡◌, ⊤, ℕ, true, List, [], ◌∷◌, ◌++◌, Some, Ok}
+use Rattle.std.specs.Prelude.{◌≡◌, ℕ, true, List, [], ◌∷◌, ◌++◌, Some, Ok}
+use Rattle.std.specs.List.{AllByRecursion}
 use Rattle.at_event.specs.Frames.{frame_of}
 use Rattle.at_event.specs.declared.frame.Frame.{Frame}
 use Rattle.at_event.specs.declared.head.Head.{Head}
@@ -49,8 +50,7 @@ MirrorsHoldHeads =
 
 -- each message is read as a frame
 abbrev pub AreFrames : List (List ℕ) → Type 0
-AreFrames [] = ⊤
-AreFrames (m ∷ messages) = ((frame : Frame) × (frame_of m ≡ Ok frame)) × AreFrames messages
+AreFrames messages = AllByRecursion (λ m. (frame : Frame) × (frame_of m ≡ Ok frame)) messages
 
 -- Frames that are written as what is sent of a faithful journal's front, each after its length, are
 -- what is sent.

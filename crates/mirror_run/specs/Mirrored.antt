@@ -1,7 +1,7 @@
 -- What mirroring a stream does (own).
 use Rattle.std.specs.Prelude.{◌≡◌, ⊤, ℕ, ◌+◌, Bool, List, [], ◌∷◌, ◌++◌, length, IsTrue}
 use Rattle.std.specs.declared.cmp.Ordering.TheVariants.{Less}
-use Rattle.std.specs.List.{list_any}
+use Rattle.std.specs.List.{AllByRecursion, list_any}
 use Rattle.std.specs.Str.{bytes_eq}
 use Rattle.at_cid.specs.Order.{key_cmp}
 use Rattle.backfill.specs.Writing.{with_length}
@@ -15,8 +15,7 @@ use Rattle.mirror_run.specs.Stream.{AreGood, EndsInMessage, IsBadBehind, event_c
 
 -- a name stands before each of these, in the order of bytes
 abbrev pub AllBehind : List ℕ → List (List ℕ) → Type 0
-AllBehind did [] = Unit {0}
-AllBehind did (d ∷ dids) = (key_cmp did d ≡ Less) × AllBehind did dids
+AllBehind did dids = AllByRecursion (λ d. key_cmp did d ≡ Less) dids
 
 -- each name stands before all later ones
 abbrev pub Ascend : List (List ℕ) → Type 0

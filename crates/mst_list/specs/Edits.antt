@@ -1,6 +1,7 @@
 -- Playing operations on maps, and undoing them on lists with holes. Both are one edit: a value, or
 -- nothing, is put at a key.
 use Rattle.std.specs.Prelude.{◌≡◌, ◌≢◌, ℕ, List, [], ◌∷◌, ◌++◌, Option, Some, None}
+use Rattle.std.specs.List.{AllByRecursion}
 use Rattle.std.specs.declared.cmp.Ordering.{Ordering}
 use Rattle.std.specs.declared.cmp.Ordering.TheVariants.{Less, Equal, Greater}
 use Rattle.mst_list.specs.declared.item.Item.{Item}
@@ -88,17 +89,14 @@ GuardedBy k None now F = IsClear k F
 GuardedBy k (Some v) None F = value_at k F ≡ None → IsClear k F
 
 abbrev pub IsGuarded : List Item → List Op → Type 0
-IsGuarded F [] = Unit {0}
-IsGuarded F (op ∷ ops) = GuardedBy op.key op.was op.now F × IsGuarded F ops
+IsGuarded F ops = AllByRecursion (λ op. GuardedBy op.key op.was op.now F) ops
 
 abbrev pub AllAgree : List Item → List Op → Type 0
-AllAgree F [] = Unit {0}
-AllAgree F (op ∷ ops) = Agrees F op × AllAgree F ops
+AllAgree F ops = AllByRecursion (Agrees F) ops
 
 -- the key is none of the operations'
 abbrev pub IsNewTo : List ℕ → List Op → Type 0
-IsNewTo k [] = Unit {0}
-IsNewTo k (op ∷ ops) = (k ≢ op.key) × IsNewTo k ops
+IsNewTo k ops = AllByRecursion (λ op. k ≢ op.key) ops
 
 -- the operation creates, updates or deletes
 abbrev pub Acts : Op → Type 0
@@ -109,8 +107,7 @@ abbrev pub IsFormedOp : Op → Type 0
 IsFormedOp op = IsKey op.key × IsLinkOrNone op.was × IsLinkOrNone op.now × Acts op
 
 abbrev pub AreFormedOps : List Op → Type 0
-AreFormedOps [] = Unit {0}
-AreFormedOps (op ∷ ops) = IsFormedOp op × AreFormedOps ops
+AreFormedOps ops = AllByRecursion IsFormedOp ops
 
 -- the keys of the operations differ
 abbrev pub AreApart : List Op → Type 0

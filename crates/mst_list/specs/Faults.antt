@@ -1,5 +1,6 @@
 -- The faults of undoing, and tests of lists.
 use Rattle.std.specs.Prelude.{◌≡◌, ◌≢◌, ℕ, zero, suc, Bool, true, false, not, ◌&&◌, List, [], ◌∷◌, Option, Some, None, Result, Ok, Err, ◌⊎◌}
+use Rattle.std.specs.List.{AllByRecursion}
 use Rattle.mst_list.specs.declared.item.Item.{Item}
 use Rattle.mst_list.specs.declared.item.Item.TheVariants.{Key, Hole}
 use Rattle.mst_list.specs.declared.op.Op.{Op}
@@ -48,8 +49,7 @@ IsFine F op = (value_at op.key F ≡ op.now) × GuardedBy op.key op.was op.now F
 
 -- each operation is fine
 abbrev pub AllFine : List Item → List Op → Type 0
-AllFine F [] = Unit {0}
-AllFine F (op ∷ ops) = IsFine F op × AllFine F ops
+AllFine F ops = AllByRecursion (IsFine F) ops
 
 -- what a verdict says
 abbrev pub IsJudged : List Item → Op → Verdict → Type 0

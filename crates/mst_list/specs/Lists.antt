@@ -1,6 +1,7 @@
 -- Lists with holes, and maps. (Repository specification, MST structure. A hole is a subtree that is
 -- known by its link alone.)
 use Rattle.std.specs.Prelude.{◌≡◌, ◌≢◌, ℕ, ◌<◌, ◌≤◌, List, [], ◌∷◌, length}
+use Rattle.std.specs.List.{AllByRecursion}
 use Rattle.std.specs.declared.cmp.Ordering.TheVariants.{Less}
 use Rattle.mst_list.specs.declared.item.TheConstants.{MOST_KEY_BYTES}
 use Rattle.mst_list.specs.declared.item.Item.{Item}
@@ -73,8 +74,7 @@ IsFormed (Key k v) = IsKey k × IsLink v
 IsFormed (Hole l c) = IsNodeLink c
 
 abbrev pub AreFormed : List Item → Type 0
-AreFormed [] = Unit {0}
-AreFormed (x ∷ F) = IsFormed x × AreFormed F
+AreFormed F = AllByRecursion IsFormed F
 
 -- a list with holes that is well laid
 pub record IsWellLaid (F : List Item) : Type 0 where

@@ -1,6 +1,7 @@
 -- Maps whose keys are found by halving, and operations of different keys, which are judged on the
 -- map as it is.
 use Rattle.std.specs.Prelude.{◌≡◌, ◌≢◌, ◌<◌, ◌≤◌, ℕ, zero, suc, List, [], ◌∷◌, length, slice_index_or, is_some, true, Option, Some, None, Result, Ok, Err}
+use Rattle.std.specs.List.{AllByRecursion}
 use Rattle.std.specs.declared.cmp.Ordering.{Ordering}
 use Rattle.std.specs.declared.cmp.Ordering.TheVariants.{Less}
 use Rattle.at_cid.specs.Order.{key_cmp}
@@ -28,8 +29,7 @@ IsFound k s (Err at) = (at ≡ length (before k s)) × (at ≤ length s) × (val
 
 -- each operation finds at its key what it says was there
 abbrev pub AllApply : List Item → List Op → Type 0
-AllApply s [] = Unit {0}
-AllApply s (op ∷ ops) = (value_at op.key s ≡ op.was) × AllApply s ops
+AllApply s ops = AllByRecursion (λ op. value_at op.key s ≡ op.was) ops
 
 -- the operation at this place is the first that doesn't
 abbrev pub IsFirstToFail : List Item → List Op → ℕ → Type 0

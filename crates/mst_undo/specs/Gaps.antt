@@ -1,5 +1,6 @@
 -- The gaps of a node: one before its first key, and one behind each key.
 use Rattle.std.specs.Prelude.{◌≡◌, ℕ, zero, suc, List, [], ◌∷◌, ◌++◌, Result, Ok, Err}
+use Rattle.std.specs.List.{AllByRecursion}
 use Rattle.std.specs.declared.cmp.Ordering.TheVariants.{Less, Greater}
 use Rattle.at_cid.specs.Order.{key_cmp}
 use Rattle.mst_list.specs.declared.item.Item.{Item}
@@ -42,8 +43,7 @@ pub record IsFilled (n : ℕ) (x f : Below) (ps : List Part) (f' : Below)
 
 -- the keys of the parts are above k
 abbrev pub AreOver : List ℕ → List Part → Type 0
-AreOver k [] = Unit {0}
-AreOver k (p ∷ parts) = (key_cmp k p.key ≡ Less) × AreOver k parts
+AreOver k parts = AllByRecursion (λ p. key_cmp k p.key ≡ Less) parts
 
 -- each key is below those behind it
 abbrev pub AreRising : List Part → Type 0

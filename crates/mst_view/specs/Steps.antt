@@ -1,5 +1,6 @@
 -- What the steps of a reading hand on.
-use Rattle.std.specs.Prelude.{◌≡◌, ℕ, List, [], ◌∷◌, ◌++◌, Option, Some, None, Result, Ok}
+use Rattle.std.specs.Prelude.{◌≡◌, ℕ, List, ◌++◌, Option, Some, None, Result, Ok}
+use Rattle.std.specs.List.{AllByRecursion}
 use Rattle.mst_list.specs.declared.item.Item.{Item}
 use Rattle.mst_list.specs.Height.{height}
 use Rattle.mst_node.specs.declared.entry.Entry.{Entry}
@@ -18,6 +19,5 @@ with_front front r = go_on r (λ G. Ok (front ++ G))
 
 -- the entries stand at layer h, and where it is 0 nothing hangs below
 abbrev pub AllHang : ℕ → List Entry → Type 0
-AllHang h [] = Unit {0}
-AllHang h (e ∷ es) =
-    ((height e.key ≡ h) × IsChildLink e.right × (h ≡ 0 → e.right ≡ None)) × AllHang h es
+AllHang h es =
+    AllByRecursion (λ e. (height e.key ≡ h) × IsChildLink e.right × (h ≡ 0 → e.right ≡ None)) es

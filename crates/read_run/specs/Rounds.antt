@@ -1,7 +1,7 @@
 -- Requests that are answered, and their lines (own): numbers are decimal, and each line ends in a
 -- line feed.
 use Rattle.std.specs.Prelude.{◌≡◌, ℕ, ◌+◌, Bool, true, false, List, [], ◌∷◌, ◌++◌, take, drop, map, codes, decimal, if◌then◌else◌}
-use Rattle.std.specs.List.{flat_map}
+use Rattle.std.specs.List.{AllByRecursion, flat_map}
 use Rattle.at_cid.specs.Counts.{Rose}
 use Rattle.relay_io.specs.declared.wire.Exchange.{Exchange}
 use Rattle.relay_row.specs.declared.row.Row.{Row}
@@ -17,8 +17,7 @@ pub record Round : Type 0 where
 
 -- each reply is that to its request, by the rows of a journal
 abbrev pub AreReplies : List Row → List Round → Type 0
-AreReplies J [] = Unit {0}
-AreReplies J (r ∷ rounds) = IsReplyTo J r.request r.reply × AreReplies J rounds
+AreReplies J rounds = AllByRecursion (λ r. IsReplyTo J r.request r.reply) rounds
 
 abbrev pub requests_of : List Round → List (List ℕ)
 requests_of rounds = map (λ r. r.request) rounds

@@ -1,6 +1,7 @@
 -- Sessions of guests, and their lines (own): numbers are decimal, and each line ends in a line
 -- feed.
 use Rattle.std.specs.Prelude.{◌≡◌, ◌⊎◌, ℕ, ◌+◌, ◌-◌, List, [], ◌∷◌, ◌++◌, length, nat_lt, Bool, Option, Some, None, Result, Ok, Err, codes, if◌then◌else◌}
+use Rattle.std.specs.List.{AllByRecursion}
 use Rattle.at_cid.specs.Counts.{Rose}
 use Rattle.event_window.specs.Held.{Held}
 use Rattle.relay_io.specs.declared.door.Guest.{Guest}
@@ -84,8 +85,7 @@ IsVisit held Guest.End sent session = ⊥
 
 -- each of these visits was such
 abbrev pub AllVisits : Held → List Visit → Type 0
-AllVisits held [] = Unit {0}
-AllVisits held (v ∷ visits) = IsVisit held v.guest v.sent v.session × AllVisits held visits
+AllVisits held visits = AllByRecursion (λ v. IsVisit held v.guest v.sent v.session) visits
 
 -- how a session ends at the door: closed, or failed; without a handshake there is none to end
 abbrev pub ending_of : Session → List Turn

@@ -1,7 +1,7 @@
 -- Histories: what becomes of the journal of a store over its calls, failures, crashes and openings
 -- (own).
 use Rattle.std.specs.Prelude.{◌≡◌, ◌≢◌, ◌⊎◌, ℕ, ◌≤◌, true, List, [], ◌∷◌, ◌++◌, Option, Some, None, nat_le, nat_lt}
-use Rattle.std.specs.List.{list_all}
+use Rattle.std.specs.List.{AllByRecursion, list_all}
 use Rattle.relay_row.specs.Folds.{cursor, events, last_seq}
 use Rattle.relay_row.specs.declared.row.Row.{Row}
 use Rattle.relay_law.specs.Carried.{CarriesOver}
@@ -83,5 +83,4 @@ LivesFrom p (next ∷ points) = Stands p × NextOf p.serves p next × LivesFrom 
 
 -- every journal that is open at one of these points comes from this one
 abbrev pub AllCome : List Row → List Point → Type 0
-AllCome J [] = Unit {0}
-AllCome J (p ∷ points) = ((K : List Row) → p.serves ≡ Some K → Comes J K) × AllCome J points
+AllCome J points = AllByRecursion (λ p. (K : List Row) → p.serves ≡ Some K → Comes J K) points

@@ -1,6 +1,7 @@
 -- Sound journals: each accepted commit of a chain follows from what stands before it, and so each
 -- chain replays.
 use Rattle.std.specs.Prelude.{◌≡◌, ℕ, List, [], ◌∷◌, ◌++◌, Ok}
+use Rattle.std.specs.List.{AllByRecursion}
 use Rattle.at_car.specs.Blocks.{BlockMap}
 use Rattle.at_event.specs.Frames.{frame_of}
 use Rattle.at_event.specs.Seen.{Seen}
@@ -46,8 +47,7 @@ IsLinked former [] = Unit {0}
 IsLinked former (c ∷ cs) = Follows former c.0 c.1 × IsLinked c.1 cs
 
 abbrev pub AreLinked : List Chain → Type 0
-AreLinked [] = Unit {0}
-AreLinked (chain ∷ others) = IsLinked chain.0 chain.1 × AreLinked others
+AreLinked others = AllByRecursion (λ chain. IsLinked chain.0 chain.1) others
 
 -- In a sound journal, each commit of each chain follows from what stands before it.
 abbrev pub IsSound : List Row → Type 0
@@ -75,6 +75,5 @@ Replays s (k ∷ ks) = (c : CommitEvent) × IsCommit k.0 c
 
 -- each chain replays from every map whose tree has the root of its base
 abbrev pub AllReplay : List Chain → Type 0
-AllReplay [] = Unit {0}
-AllReplay (chain ∷ others) = ((s : List Item) → IsMap s → root s ≡ chain.0 → Replays s chain.1)
-    × AllReplay others
+AllReplay others =
+    AllByRecursion (λ chain. (s : List Item) → IsMap s → root s ≡ chain.0 → Replays s chain.1) others

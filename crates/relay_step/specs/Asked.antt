@@ -1,7 +1,7 @@
 -- What a step shows of the judges: which calls it made, in their order, and what they answered
 -- (own).
 use Rattle.std.specs.Prelude.{◌≡◌, ℕ, ◌≤◌, Bool, true, false, ◌&&◌, ◌||◌, ◌==◌, List, [], ◌∷◌, ◌++◌, length, Option, Some, None, Result, Ok, option_map, nat_le, if◌then◌else◌}
-use Rattle.std.specs.List.{filter}
+use Rattle.std.specs.List.{AllByRecursion, filter}
 use Rattle.sha2.specs.Sha256.{sha256}
 use Rattle.at_car.specs.Car.{car_of}
 use Rattle.at_event.specs.Refusals.{code_of}
@@ -73,8 +73,7 @@ is_refresh (refreshes did) = true
 is_refresh other = false
 
 abbrev pub AllAbout : List ℕ → List Call → Type 0
-AllAbout did [] = Unit {0}
-AllAbout did (call ∷ calls) = (did_called call ≡ did) × AllAbout did calls
+AllAbout did calls = AllByRecursion (λ call. did_called call ≡ did) calls
 
 -- What a step asks that comes to nothing: calls about one DID, with one refresh at most.
 pub record AskedInVain (old : Panel) (did : List ℕ) (new : Panel) : Type 0 where

@@ -1,5 +1,6 @@
 -- Journals, as the bodies of a log hold them (own).
 use Rattle.std.specs.Prelude.{◌≡◌, ◌⊎◌, ℕ, List, [], ◌∷◌, ◌++◌, length}
+use Rattle.std.specs.List.{AllByRecursion}
 use Rattle.relay_disk.specs.Disk.{View}
 use Rattle.gate_log.specs.declared.format.Format.{Format}
 use Rattle.gate_log.specs.declared.picking.Side.{Side}
@@ -21,8 +22,7 @@ bytes_of (rows ∷ bodies) = rows_body rows ∷ bytes_of bodies
 
 -- each has the rows of a body
 abbrev pub AllBodies : List (List Row) → Type 0
-AllBodies [] = Unit {0}
-AllBodies (rows ∷ bodies) = IsBody rows (rows_body rows) × AllBodies bodies
+AllBodies bodies = AllByRecursion (λ rows. IsBody rows (rows_body rows)) bodies
 
 -- bodies whose rows, joined, are the journal
 pub record AreBodiesOf (J : List Row) (bodies : List (List Row)) : Type 0 where

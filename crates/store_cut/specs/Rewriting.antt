@@ -1,6 +1,7 @@
 -- A journal that is written anew into a log that is being built, each row as a body of its own
 -- (own).
 use Rattle.std.specs.Prelude.{◌≡◌, ◌⊎◌, ⊤, ℕ, ◌+◌, ◌<◌, Bool, List, [], ◌∷◌, ◌++◌, length, IsTrue}
+use Rattle.std.specs.List.{AllByRecursion}
 use Rattle.relay_disk.specs.Disk.{View}
 use Rattle.relay_disk.specs.Moments.{LeavesOnly}
 use Rattle.gate_log.specs.Image.{made, records}
@@ -26,8 +27,7 @@ IsShort row = length (rows_body (row ∷ [])) < BODY_LENGTHS
 
 -- and so it is of each of these rows
 abbrev pub AllShort : List Row → Type 0
-AllShort [] = ⊤
-AllShort (row ∷ rows) = IsShort row × AllShort rows
+AllShort rows = AllByRecursion IsShort rows
 
 -- where the next body goes behind a body for each of these rows
 abbrev pub end_behind : ℕ → List Row → ℕ

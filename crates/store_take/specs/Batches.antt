@@ -1,5 +1,6 @@
 -- What taking messages of hosts does (own).
 use Rattle.std.specs.Prelude.{◌≡◌, ◌≢◌, ◌⊎◌, ◌≤◌, ℕ, Bool, true, false, List, [], ◌∷◌, ◌++◌, length, map, Option, Some, None, Result, Ok, Err, IsTrue}
+use Rattle.std.specs.List.{AllByRecursion}
 use Rattle.at_authority.specs.Panels.{Panel}
 use Rattle.at_event.specs.Frames.{frame_of}
 use Rattle.relay_disk.specs.Disk.{View}
@@ -49,8 +50,7 @@ EndsLast [] = Unit {0}
 EndsLast (o ∷ outcomes) = (is_end o ≡ true → outcomes ≡ []) × EndsLast outcomes
 
 abbrev pub NoneEnds : List Outcome → Type 0
-NoneEnds [] = Unit {0}
-NoneEnds (o ∷ outcomes) = (is_end o ≡ false) × NoneEnds outcomes
+NoneEnds outcomes = AllByRecursion (λ o. is_end o ≡ false) outcomes
 
 -- a host ended with the last of them
 abbrev pub HasEnd : List Outcome → Type 0

@@ -1,5 +1,6 @@
 -- Messages as those that a host gives, one after another.
-use Rattle.std.specs.Prelude.{◌≡◌, ◌≢◌, ◌⊎◌, ◌≤◌, ⊤, ℕ, Bool, true, List, [], ◌∷◌, ◌++◌, length, IsTrue}
+use Rattle.std.specs.Prelude.{◌≡◌, ◌≢◌, ◌⊎◌, ◌≤◌, ℕ, Bool, true, List, [], ◌∷◌, ◌++◌, length, IsTrue}
+use Rattle.std.specs.List.{AllByRecursion}
 use Rattle.relay_row.specs.declared.row.Row.{Row}
 use Rattle.relay_core.specs.Runs.{has_ended}
 use Rattle.relay_step.specs.Steps.{Step, after_end, ended_by_all}
@@ -15,13 +16,11 @@ bytes_of_messages (m ∷ messages) = m.bytes ∷ bytes_of_messages messages
 
 -- each is of this host
 abbrev pub AreOf : List ℕ → List Message → Type 0
-AreOf host [] = ⊤
-AreOf host (m ∷ messages) = (m.host ≡ host) × AreOf host messages
+AreOf host messages = AllByRecursion (λ m. m.host ≡ host) messages
 
 -- none was taken after the end of its host
 abbrev pub NoneBehindEnd : List Step → Type 0
-NoneBehindEnd [] = ⊤
-NoneBehindEnd (s ∷ steps) = (s.decided ≢ after_end) × NoneBehindEnd steps
+NoneBehindEnd steps = AllByRecursion (λ s. s.decided ≢ after_end) steps
 
 -- It is done where so many messages were taken, none is left, or the host has ended.
 abbrev pub IsDoneAt : List ℕ → ℕ → List Step → List (List ℕ) → Status → Type 0

@@ -1,6 +1,7 @@
 -- What was answered to messages, and what is kept of it for the report (own). No public clause
 -- cites this file.
 use Rattle.std.specs.Prelude.{◌≡◌, ℕ, ◌+◌, true, false, List, [], ◌∷◌, ◌++◌, length, map, Option, Some, None, if◌then◌else◌}
+use Rattle.std.specs.List.{AllByRecursion}
 use Rattle.relay_core.specs.Report.{over_line}
 use Rattle.relay_core.specs.Runs.{has_ended}
 use Rattle.relay_step.specs.Steps.{Step}
@@ -87,8 +88,7 @@ pub record IsNoted (xs : List Said) (old new : Tally) : Type 0 where
 
 -- none of the hosts has ended
 abbrev pub AreLive : List (List ℕ) → List Message → Type 0
-AreLive ended [] = Unit {0}
-AreLive ended (m ∷ group) = (has_ended ended m.host ≡ false) × AreLive ended group
+AreLive ended group = AllByRecursion (λ m. has_ended ended m.host ≡ false) group
 
 -- the first of them has
 abbrev pub FirstHasEnded : List (List ℕ) → List Message → Type 0

@@ -1,5 +1,6 @@
 -- Maps in pieces, which are seen as one list.
 use Rattle.std.specs.Prelude.{◌≡◌, ℕ, ◌<◌, ◌≤◌, Bool, true, false, List, [], ◌∷◌, ◌++◌, length, set, slice_index_or, Option}
+use Rattle.std.specs.List.{AllByRecursion}
 use Rattle.std.specs.List.Sorted.{IsPartitionPoint}
 use Rattle.at_cid.specs.Order.{key_cmp}
 use Rattle.mst_list.specs.declared.item.Item.{Item}
@@ -20,8 +21,7 @@ flatten (p ∷ ps) = p ++ flatten ps
 
 -- no piece is empty
 abbrev pub AreFilled : List (List Item) → Type 0
-AreFilled [] = Unit {0}
-AreFilled (p ∷ ps) = (0 < length p) × AreFilled ps
+AreFilled ps = AllByRecursion (λ p. 0 < length p) ps
 
 -- the pieces are those of a map
 pub record ArePieces (ps : List (List Item)) : Type 0 where

@@ -1,6 +1,7 @@
 -- Operations in two turns: the creates first, which take memory and can be taken back, and then the
 -- updates and deletes, which take none.
 use Rattle.std.specs.Prelude.{◌≡◌, ℕ, List, [], ◌∷◌, Option, Some, None}
+use Rattle.std.specs.List.{AllByRecursion}
 use Rattle.mst_list.specs.declared.item.Item.{Item}
 use Rattle.mst_list.specs.declared.op.Op.{Op}
 use Rattle.mst_list.specs.Edits.{put, value_at}
@@ -38,5 +39,4 @@ ChangeApplies None found = Unit {0}
 ChangeApplies (Some v) found = found ≡ Some v
 
 abbrev pub ChangesApply : List Item → List Op → Type 0
-ChangesApply s [] = Unit {0}
-ChangesApply s (op ∷ ops) = ChangeApplies op.was (value_at op.key s) × ChangesApply s ops
+ChangesApply s ops = AllByRecursion (λ op. ChangeApplies op.was (value_at op.key s)) ops
