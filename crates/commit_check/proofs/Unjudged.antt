@@ -8,22 +8,25 @@ use Rattle.mst_list.specs.declared.op.Op.{Op}
 use Rattle.commit_check.specs.declared.expect.Expect.{Expect}
 use Rattle.commit_check.specs.declared.fault.CheckFault.{CheckFault}
 use Rattle.commit_check.specs.Linking.{IsStopBy}
-use Rattle.commit_check.specs.Refusing.{IsShown, IsUnjudged}
+use Rattle.commit_check.specs.Refusing.{IsUnjudged, opening_told}
+use Rattle.event_checks.specs.Faults.{IsShown}
 use Rattle.event_checks.specs.Lines.{is_judged}
+use Rattle.event_checks.specs.Opening.{CarResult, object_lines}
+use Rattle.event_checks.specs.declared.fault.OpenFault.{OpenFault}
 use Rattle.commit_check.specs.Step.{StopsAt, edits_of, is_gap}
 use Rattle.commit_check.specs.Order.{IsFirstRefusal, StopsPast}
 use Rattle.event_checks.specs.Lines.{first_of}
 use Rattle.event_checks.proofs.Firsts.{first_unjudged}
-use Rattle.event_checks.specs.Table.{block_lines, field_lines, open_lines}
+use Rattle.event_checks.specs.Table.{field_lines, open_lines}
 
 pub field_unjudged : (e : CommitEvent) (refusal : Refusal) → Some refusal ≡ first_of (field_lines e) → is_judged refusal ≡ false
 field_unjudged e refusal e_is = first_unjudged (field_lines e) refusal (refl, (refl, (refl, (refl, (refl, (refl, tt)))))) (sym e_is)
 
-pub block_unjudged : (e : CommitEvent) (fault : CheckFault) → IsShown (first_of (block_lines e)) fault → IsUnjudged fault
-block_unjudged e CheckFault.Memory shown = tt
-block_unjudged e (CheckFault.Refused refusal) shown = first_unjudged (block_lines e) refusal (refl, (refl, (refl, (refl, (refl, (refl, tt)))))) shown
+pub object_unjudged : (car : CarResult) (stated : Option (List ℕ)) (did : List ℕ) (rev : ℕ) (fault : OpenFault) → IsShown (first_of (object_lines car stated did rev)) fault → IsUnjudged (opening_told fault)
+object_unjudged car stated did rev OpenFault.Memory shown = tt
+object_unjudged car stated did rev (OpenFault.Refused refusal) shown = first_unjudged (object_lines car stated did rev) refusal (refl, (refl, (refl, (refl, tt)))) shown
 
-pub ruleset by_lines = (field_unjudged, block_unjudged)
+pub ruleset by_lines = (field_unjudged, object_unjudged)
 
 stop_unjudged : (ops : List Op) (blocks : BlockMap) (former later : List ℕ) (refusal : Refusal) → StopsAt ops blocks former later refusal → is_judged refusal ≡ false
 stop_unjudged [] blocks former later Refusal.NotHome stops = absurd stops

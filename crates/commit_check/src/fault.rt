@@ -3,7 +3,9 @@
 ghost use Rattle.std.specs.Prelude.{◌≡◌};
 ghost use Rattle.commit_check.specs.declared.fault.CheckFault as fault;
 ghost use Rattle.commit_check.specs.Refusing.{opening_told, undoing_told, view_told};
+ghost use Rattle.event_checks.specs.Faults.{car_told};
 
+use at_car::CarFault;
 use at_cid::Memory;
 use at_event::Refusal;
 use event_checks::OpenFault;
@@ -38,6 +40,14 @@ impl From<OpenFault> for CheckFault {
             OpenFault::Refused(refusal) => CheckFault::Refused(refusal),
             OpenFault::Memory => CheckFault::Memory,
         }
+    }
+}
+
+impl From<CarFault> for CheckFault {
+    ghost from_gives = { λ fault e. e ≡ opening_told (car_told fault) };
+
+    fn from(fault: CarFault) -> CheckFault {
+        CheckFault::from(OpenFault::from(fault))
     }
 }
 

@@ -12,7 +12,7 @@ use crate::fields::field_refusal;
 use crate::opened::Opened;
 use at_event::{CommitEvent, Head, Refusal};
 use at_syntax::Tid;
-use event_checks::{find_commit, find_data, is_stale, read_car};
+use event_checks::{find_commit, find_data, is_stale};
 use std::alloc::Global;
 
 fn refused<T>(refusal: Refusal) -> Result<T, CheckFault>
@@ -38,29 +38,6 @@ fn test_fields(alloc: Global, event: &CommitEvent, last: Option<Tid>) -> Result<
     Ok(())
 }
 
-/// What the blocks hold.
-fn open_blocks(alloc: Global, event: &CommitEvent) -> Result<Opened, CheckFault>
-    ensures shown { OnOk result (first_of (block_lines event.now) ≡ None) }
-    ensures opened { IfOk result (λ opened. IsOpened event.now opened) }
-    ensures refused { IfErr result (IsShown (first_of (block_lines event.now))) }
-{
-    let car = read_car(alloc, event.blocks.as_slice())?;
-    let found = find_commit(alloc, &car, Some(event.commit), &event.repo, event.rev)?;
-    let commit = found.commit;
-    let head = Head {
-        rev: commit.rev,
-        data_root: commit.data_root,
-        commit: event.commit,
-    };
-    let digest = commit.digest();
-    Ok(Opened {
-        head,
-        digest,
-        sig: commit.sig,
-        car,
-    })
-}
-
 /// Opens a commit event: its blocks are read, and the commit object under their first root.
 ///
 /// It is refused with the first of these that applies: `tooBig` is true; more than
@@ -81,7 +58,21 @@ pub fn open_commit(
     ensures unjudged { IfErr result IsUnjudged }
 {
     test_fields(alloc, event, last)?;
-    open_blocks(alloc, event)
+    let car = at_car::read(alloc, event.blocks.as_slice())?;
+    let found = find_commit(alloc, &car, Some(event.commit), &event.repo, event.rev)?;
+    let commit = found.commit;
+    let head = Head {
+        rev: commit.rev,
+        data_root: commit.data_root,
+        commit: event.commit,
+    };
+    let digest = commit.digest();
+    Ok(Opened {
+        head,
+        digest,
+        sig: commit.sig,
+        car,
+    })
 }
 
 /// What the blocks hold, where nothing is verified of a signature: what one would cover is neither encoded nor hashed.
@@ -91,7 +82,7 @@ fn block_content(alloc: Global, event: &CommitEvent) -> Result<Content, CheckFau
     ensures refused { IfErr result (IsShown (first_of (block_lines event.now))) }
 {
     let blocks = event.blocks.as_slice();
-    let car = read_car(alloc, blocks)?;
+    let car = at_car::read(alloc, blocks)?;
     let data_root = find_data(alloc, &car, Some(event.commit), &event.repo, event.rev)?;
     Ok(Content { car, data_root })
 }

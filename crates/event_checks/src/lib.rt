@@ -1,5 +1,5 @@
 //! What the checks of commits, of syncs and of whole repositories have in common: the order of the refusals that an event
-//! shows by itself, and the CAR and the commit object that its blocks hold.
+//! shows by itself, and the commit object that its blocks hold.
 #![tactic(auto)]
 
 mod fault;
@@ -9,5 +9,5 @@ mod stale;
 
 pub use fault::OpenFault;
 pub use limits::{MOST_COMMIT_BYTES, MOST_OPS, MOST_SYNC_BYTES};
-pub use opening::{CommitBlock, find_commit, find_data, read_car};
+pub use opening::{CommitBlock, find_commit, find_data};
 pub use stale::is_stale;

@@ -1,11 +1,10 @@
-//! The CAR in an event's blocks, and the commit object under its first root.
+//! The commit object under the first root of the CAR in an event's blocks.
 
 ghost use Rattle.std.specs.Prelude.{◌≡◌, ℕ, List, IfOk, IfErr, OnOk, Some, None, Ok, Err, true};
-ghost use Rattle.at_car.specs.Car.{car_of};
 ghost use Rattle.at_car.specs.Standing.{root_of};
 ghost use Rattle.event_checks.specs.Faults.{IsShown};
 ghost use Rattle.event_checks.specs.Lines.{first_of};
-ghost use Rattle.event_checks.specs.Opening.{IsFound, block_in, data_in, form_lines, is_stated, object_in, object_lines};
+ghost use Rattle.event_checks.specs.Opening.{IsFound, block_in, data_in, is_stated, object_in, object_lines};
 
 use crate::fault::OpenFault;
 use at_car::{Car, first_root};
@@ -30,18 +29,6 @@ fn refused<T>(refusal: Refusal) -> Result<T, OpenFault>
     ensures { result ≡ Err (OpenFault.Refused refusal) }
 {
     Err(OpenFault::Refused(refusal))
-}
-
-/// The CAR in the blocks.
-///
-/// `BadCar` where its first fault is one of its form, `WrongDigest` where it is a block whose SHA-256 isn't its link's.
-pub fn read_car(alloc: Global, blocks: &[u8]) -> Result<Car, OpenFault>
-    ensures shown { OnOk result (first_of (form_lines (car_of blocks.now)) ≡ None) }
-    ensures car { IfOk result (λ car. car_of blocks.now ≡ Ok (car.roots, car.blocks)) }
-    ensures refused { IfErr result (IsShown (first_of (form_lines (car_of blocks.now)))) }
-{
-    let car = at_car::read(alloc, blocks)?;
-    Ok(car)
 }
 
 /// Whether a root is the link that is stated, where one is.

@@ -12,7 +12,7 @@ use at_car::Car;
 use at_cid::Octets;
 use at_event::{Refusal, SyncEvent};
 use at_syntax::Tid;
-use event_checks::{MOST_SYNC_BYTES, OpenFault, find_commit, is_stale, read_car};
+use event_checks::{MOST_SYNC_BYTES, OpenFault, find_commit, is_stale};
 use std::alloc::Global;
 
 /// What the CAR of an event shows of its commit.
@@ -43,7 +43,7 @@ fn find(alloc: Global, event: &SyncEvent, last: Option<Tid>) -> Result<Found, Op
     if is_stale(last, event.rev) {
         return Err(OpenFault::Refused(Refusal::Stale));
     }
-    let car = read_car(alloc, event.blocks.as_slice())?;
+    let car = at_car::read(alloc, event.blocks.as_slice())?;
     find_in(alloc, event, &car)
 }
 
