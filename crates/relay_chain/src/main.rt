@@ -123,32 +123,35 @@ fn is_host(words: &[String]) -> bool {
     }
 }
 
-// Runs the program, once the standard descriptors are held.
-fn run_held(reporter: Reporter) -> Status {
+// The words of the run, once the standard descriptors are held.
+fn words_given(reporter: Reporter) -> Result<Vec<String>, Status> {
     match hold_descriptors(reporter.rt()) {
         Ok(closed) if !closed.output => {}
         Ok(_) => {
             reporter.report("standard output", &"it is closed");
-            return Status::WriteFault;
+            return Err(Status::WriteFault);
         }
         Err(error) => {
             reporter.report("standard streams", &error);
-            return Status::WriteFault;
+            return Err(Status::WriteFault);
         }
     }
     match read_arguments(reporter.rt()) {
-        Ok(words) => run(reporter, words.as_slice()),
+        Ok(words) => Ok(words),
         Err(ArgumentsFault::NotText) => {
             reporter.report("usage", &"a word is no UTF-8 text");
-            Status::Usage
+            Err(Status::Usage)
         }
-        Err(ArgumentsFault::Memory) => Status::Memory,
+        Err(ArgumentsFault::Memory) => Err(Status::Memory),
     }
 }
 
 fn main(rt: HostRuntime) -> ExitCode {
     let status = match Reporter::new(rt, "relay_chain") {
-        Ok(reporter) => run_held(reporter),
+        Ok(reporter) => match words_given(reporter) {
+            Ok(words) => run(reporter, words.as_slice()),
+            Err(status) => status,
+        },
         Err(Memory) => Status::Memory,
     };
     ExitCode::from(status.code())

@@ -154,33 +154,35 @@ fn run(reporter: Reporter, words: &[String], is_closed: bool) -> Status {
     }
 }
 
-// Runs the program, once the standard descriptors are held.
-fn run_held(reporter: Reporter) -> Status {
+// The words of the run, and whether the standard input is closed, once the standard descriptors are held.
+fn words_given(reporter: Reporter) -> Result<(Vec<String>, bool), Status> {
     let closed = match hold_descriptors(reporter.rt()) {
         Ok(closed) => closed,
         Err(error) => {
             reporter.report("standard streams", &error);
-            return Status::WriteFault;
+            return Err(Status::WriteFault);
         }
     };
     if closed.output {
         reporter.report("standard output", &"it is closed");
-        return Status::WriteFault;
+        return Err(Status::WriteFault);
     }
-    let words = match read_arguments(reporter.rt()) {
-        Ok(words) => words,
+    match read_arguments(reporter.rt()) {
+        Ok(words) => Ok((words, closed.input)),
         Err(ArgumentsFault::NotText) => {
             reporter.report("usage", &"a word is no UTF-8 text");
-            return Status::Usage;
+            Err(Status::Usage)
         }
-        Err(ArgumentsFault::Memory) => return Status::Memory,
-    };
-    run(reporter, words.as_slice(), closed.input)
+        Err(ArgumentsFault::Memory) => Err(Status::Memory),
+    }
 }
 
 fn main(rt: HostRuntime) -> ExitCode {
     let status = match Reporter::new(rt, "relay") {
-        Ok(reporter) => run_held(reporter),
+        Ok(reporter) => match words_given(reporter) {
+            Ok((words, is_closed)) => run(reporter, words.as_slice(), is_closed),
+            Err(status) => status,
+        },
         Err(_) => Status::Memory,
     };
     ExitCode::from(status.code())
