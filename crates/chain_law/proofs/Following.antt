@@ -20,12 +20,11 @@ use Rattle.relay_row.proofs.Journals.{cursors_joined, fronts, grew, lasts_joined
 use Rattle.account_state.specs.Folds.{account, account_after, fresh, last_rev, moved}
 use Rattle.account_state.specs.State.{State}
 use Rattle.account_state.proofs.Joined.{joined}
-use Rattle.relay_core.specs.Decide.{Checks, Found, answers, decided_event, decision_for, old_if, refusal_of}
+use Rattle.relay_core.specs.Answering.{answers, decision_for, event_taken}
+use Rattle.relay_core.specs.Decide.{Checks, Found, decided_event, old_if, refusal_of, is_held}
 use Rattle.relay_core.specs.Opening.{OpensRight}
-use Rattle.relay_core.specs.Rows.{event_taken}
 use Rattle.relay_core.specs.Runs.{Message, Turn, IsMadeBy, RunFrom}
 use Rattle.relay_core.specs.Shown.{says_yes, shown, shows_home, shows_verdict}
-use Rattle.relay_core.specs.Table.{is_held}
 use Rattle.relay_core.specs.declared.decision.Pass.{Pass}
 use Rattle.relay_law.specs.Right.{LinksRight}
 use Rattle.relay_law.proofs.Sounding.{taken_is}

@@ -13,10 +13,10 @@ use Rattle.relay_row.proofs.Journals.{lasts_joined}
 use Rattle.account_state.specs.Folds.{account, last_rev, moved}
 use Rattle.account_state.specs.State.{State}
 use Rattle.account_state.proofs.Joined.{joined}
-use Rattle.relay_core.specs.Decide.{Checks, whole_under}
+use Rattle.relay_core.specs.Decide.{Checks, whole_under, event_taken_at}
 use Rattle.relay_core.specs.Operating.{operate_refusal, operated_as, sync_refusal}
 use Rattle.relay_law.specs.Histories.{IsCut}
-use Rattle.chain_law.specs.Given.{AreGiven, IsFoundOfRepository, IsGiven, IsOfEvent, IsOfRepository, IsOfSync, IsOfTakedown, event_taken_at}
+use Rattle.chain_law.specs.Given.{AreGiven, IsFoundOfRepository, IsGiven, IsOfEvent, IsOfRepository, IsOfSync, IsOfTakedown}
 use Rattle.chain_law.specs.GivenLaws.{OwnJournalsAreGiven}
 use Rattle.chain_law.specs.Made.{ChangesAccount, ComeByCommands, ComesByCommand, SyncsAccount, TakesMessages}
 use Rattle.chain_law.proofs.Making.{joined_given, operated_given, steps_given, synced_given}

@@ -24,9 +24,9 @@ use Rattle.account_state.specs.Folds.{account, last_rev}
 use Rattle.repo_sync.specs.declared.fault.RepoFault.{RepoFault}
 use Rattle.repo_sync.specs.declared.found.Found.{Found as Checked}
 use Rattle.repo_sync.specs.Repository.{IsAnswer}
-use Rattle.relay_core.specs.Decide.{Checks, Found, absent, unfit, found, whole_under, decided_event, decision_for, fetched_as, refusal_of}
+use Rattle.relay_core.specs.Answering.{decision_for, fetched_of}
+use Rattle.relay_core.specs.Decide.{Checks, Found, absent, unfit, found, whole_under, decided_event, fetched_as, refusal_of}
 use Rattle.relay_core.specs.Operating.{sync_refusal}
-use Rattle.relay_core.specs.Rows.{fetched_of}
 use Rattle.relay_core.specs.Runs.{IsMadeBy}
 use Rattle.relay_core.specs.Shown.{found_in, or_zero, shown}
 use Rattle.relay_step.specs.Around.{Around, AllAsked, SameRepositories}

@@ -28,9 +28,8 @@ use Rattle.commit_check.proofs.Held.{car_linked}
 use Rattle.relay_row.specs.declared.taken.Effect.{Effect}
 use Rattle.repo_sync.specs.Repository.{lines, is_of_account}
 use Rattle.repo_sync.specs.declared.found.Found.{Found as Checked}
-use Rattle.relay_core.specs.Decide.{Checks, commit_blocks, commit_car}
+use Rattle.relay_core.specs.Decide.{Checks, commit_blocks, commit_car, refusal_in}
 use Rattle.relay_core.specs.Opening.{OpensRight, IsHeadIn, shown_alone}
-use Rattle.relay_core.specs.Table.{refusal_in}
 use Rattle.chain_law.specs.Chained.{is_raised}
 use Rattle.chain_law.specs.Given.{IsOfRepository}
 use Rattle.relay_law.proofs.Blocks.{block_short, car_again, car_short, head_in}

@@ -21,10 +21,10 @@ use Rattle.account_state.specs.declared.repo.Repo.{Repo}
 use Rattle.commit_check.specs.Order.{HoldsCommit}
 use Rattle.commit_check.specs.Step.{is_gap, root_before}
 use Rattle.commit_check.proofs.Held.{shown_held}
-use Rattle.relay_core.specs.Decide.{Checks, Outside, answers}
+use Rattle.relay_core.specs.Answering.{answers}
+use Rattle.relay_core.specs.Decide.{Checks, Outside, refusal_in, is_held}
 use Rattle.relay_core.specs.Opening.{OpensRight, IsHeadIn, IsHeadOf, shown_alone}
 use Rattle.relay_core.specs.Rows.{effect_of, head_effect}
-use Rattle.relay_core.specs.Table.{refusal_in, is_held}
 use Rattle.relay_core.specs.declared.limits.TheConstants.{LONGEST_MESSAGE}
 use Rattle.relay_law.specs.Right.{LinksRight, expect_of}
 use Rattle.relay_law.proofs.Answered.{same_head, told_ok, linking_decided}

@@ -34,16 +34,16 @@ use Rattle.relay_row.proofs.Fits.{FitsFetched, message_fits, rev_fits, taken_fit
 use Rattle.account_state.specs.Folds.{account, effected, last_rev, lost, moved, refetched}
 use Rattle.account_state.specs.State.{State}
 use Rattle.account_state.specs.declared.repo.Repo.{Repo}
-use Rattle.relay_core.specs.Decide.{Checks, Outside, Found, absent, unfit, found, commit_car, decision_for, fetched_as, sync_message, whole_under}
+use Rattle.relay_core.specs.Answering.{decision_for, event_taken}
+use Rattle.relay_core.specs.Decide.{Checks, Outside, Found, absent, unfit, found, commit_car, fetched_as, sync_message, whole_under, is_held, when, refusal_at, event_taken_at}
 use Rattle.relay_core.specs.Opening.{OpensRight}
 use Rattle.relay_core.specs.Operating.{operated_message}
-use Rattle.relay_core.specs.Rows.{effect_of, event_taken}
-use Rattle.relay_core.specs.Table.{is_held, when}
+use Rattle.relay_core.specs.Rows.{effect_of}
 use Rattle.relay_law.specs.Right.{LinksRight}
 use Rattle.relay_law.proofs.Heads.{accounts_are_formed}
 use Rattle.relay_law.proofs.Own.{did_named, number_below, status_is, sync_blocks, takendown}
 use Rattle.chain_law.specs.Chained.{is_raised, raises, fetch_raises}
-use Rattle.chain_law.specs.Given.{answers_at, refusal_at, event_taken_at, IsOfRepository, IsFoundOfRepository, IsOfEvent, IsOfFaulty, IsOfSync, IsOfTakedown, IsGiven}
+use Rattle.chain_law.specs.Given.{answers_at, IsOfRepository, IsFoundOfRepository, IsOfEvent, IsOfFaulty, IsOfSync, IsOfTakedown, IsGiven}
 use Rattle.chain_law.proofs.Own.{sync_carries, down_carries, up_carries}
 use Rattle.chain_law.proofs.Renumbered.{carried_on}
 use Rattle.chain_law.specs.Again.{Trails}

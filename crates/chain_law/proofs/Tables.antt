@@ -7,11 +7,11 @@ use Rattle.at_event.specs.Writing.{out_length}
 use Rattle.at_event.specs.declared.refusal.Refusal.{Refusal}
 use Rattle.relay_row.specs.Rules.{loses}
 use Rattle.account_state.specs.State.{State}
-use Rattle.relay_core.specs.Decide.{Checks, Outside, first_refusal, or_later}
-use Rattle.relay_core.specs.Table.{when, body_lines}
+use Rattle.relay_core.specs.Decide.{Checks, Outside, first_refusal, or_later, when, refusal_at}
+use Rattle.relay_core.specs.Table.{body_lines}
 use Rattle.relay_core.specs.declared.limits.TheConstants.{LONGEST_MESSAGE}
 use Rattle.relay_core.proofs.Showing.{table}
-use Rattle.chain_law.specs.Given.{answers_at, refusal_at}
+use Rattle.chain_law.specs.Given.{answers_at}
 
 -- ---- the table of a commit or a sync
 

@@ -12,14 +12,15 @@ use Rattle.relay_row.specs.declared.taken.Effect.{Effect}
 use Rattle.account_state.specs.Folds.{effected, last_rev}
 use Rattle.account_state.specs.State.{State}
 use Rattle.account_state.specs.declared.repo.Repo.{Repo}
-use Rattle.relay_core.specs.Decide.{Checks, Outside, answers, as_result, first_refusal, or_later, refusal_of}
+use Rattle.relay_core.specs.Answering.{answers, as_result}
+use Rattle.relay_core.specs.Decide.{Checks, Outside, first_refusal, or_later, refusal_of, when, is_ahead, refusal_in, refusal_at}
 use Rattle.relay_core.specs.Rows.{effect_of, head_effect}
-use Rattle.relay_core.specs.Table.{when, is_ahead, refusal_in, body_lines}
+use Rattle.relay_core.specs.Table.{body_lines}
 use Rattle.relay_core.specs.declared.limits.TheConstants.{LONGEST_MESSAGE}
 use Rattle.relay_core.proofs.Showing.{table}
 use Rattle.relay_law.proofs.Answered.{told_ok}
 use Rattle.chain_law.specs.Again.{Trails}
-use Rattle.chain_law.specs.Given.{answers_at, refusal_at}
+use Rattle.chain_law.specs.Given.{answers_at}
 use Rattle.chain_law.proofs.Tables.{table_none, table_late, table_lost, short, short_none, short_late, short_lost, when_not, when_active, later_at}
 
 pub good_trails : (a b : State) (head : Head) → Trails a b → Trails (record a { repo = Repo.Good head }) (record b { repo = Repo.Good head })

@@ -27,12 +27,13 @@ use Rattle.relay_row.specs.declared.row.Row.{Row}
 use Rattle.relay_row.specs.declared.taken.Taken.{Taken}
 use Rattle.account_state.specs.Folds.{account, last_rev}
 use Rattle.account_state.specs.State.{State}
-use Rattle.relay_core.specs.Decide.{Checks, Outside, Found, answers as all_answers, as_result, decided_event, decision_for, first_refusal, or_later, refusal_of}
+use Rattle.relay_core.specs.Answering.{answers as all_answers, as_result, decision_for}
+use Rattle.relay_core.specs.Decide.{Checks, Outside, Found, decided_event, first_refusal, or_later, refusal_of, is_ahead, refusal_in, when}
 use Rattle.relay_core.specs.Opening.{OpensRight, shown_alone}
 use Rattle.relay_core.specs.Rows.{faulty_taken}
 use Rattle.relay_core.specs.Runs.{IsMadeBy}
 use Rattle.relay_core.specs.Shown.{says_yes, shown, shows_home, shows_verdict}
-use Rattle.relay_core.specs.Table.{body_lines, is_ahead, refusal_in, when}
+use Rattle.relay_core.specs.Table.{body_lines}
 use Rattle.relay_core.specs.declared.limits.TheConstants.{LONGEST_MESSAGE}
 use Rattle.relay_core.proofs.Showing.{table}
 use Rattle.relay_law.proofs.Sounding.{taken_is}

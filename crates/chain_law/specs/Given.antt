@@ -16,26 +16,10 @@ use Rattle.account_state.specs.Folds.{account, last_rev}
 use Rattle.account_state.specs.State.{State}
 use Rattle.repo_sync.specs.Repository.{IsWhole}
 use Rattle.repo_sync.specs.declared.found.Found.{Found as Checked}
-use Rattle.relay_core.specs.Decide.{Checks, Outside, Found, absent, unfit, found, answers, decision_for, first_refusal, whole_under}
+use Rattle.relay_core.specs.Answering.{answers}
+use Rattle.relay_core.specs.Decide.{Checks, Outside, Found, absent, unfit, found, event_taken_at, whole_under}
 use Rattle.relay_core.specs.Operating.{operate_refusal, operated_as, sync_refusal}
-use Rattle.relay_core.specs.Rows.{event_taken, faulty_taken}
-use Rattle.relay_core.specs.Table.{event_lines}
-use Rattle.relay_core.specs.declared.answers.Answers.{Answers}
-
--- the answers to all questions, where a row keeps this moment, or none, since rows were once made
--- without one
-abbrev pub answers_at : Checks → ℕ → State → Seen → Outside → Option ℕ → Answers
-answers_at checks last a e o moment = record (answers checks last a e o) { moment = moment }
-
--- the first refusal of an event that applies at the moment. At none, no revision is ahead
-abbrev pub refusal_at : Checks → State → Seen → Outside → Option ℕ → Option Refusal
-refusal_at checks a e o moment = first_refusal (event_lines a e (answers_at checks 0 a e o moment))
-
--- the row of an event that is decided at the moment
-abbrev pub event_taken_at : Checks → ℕ → State → List ℕ → Seen → Outside → Option ℕ → Taken
-event_taken_at checks last a host e o moment =
-    event_taken last host e (decision_for a e.body o.fetched (refusal_at checks a e o moment))
-    (answers_at checks last a e o moment)
+use Rattle.relay_core.specs.Rows.{faulty_taken}
 
 -- The bytes of some repository of the DID, not below the least revision, come to this head, and to
 -- this block of its commit.

@@ -22,8 +22,9 @@ use Rattle.relay_row.specs.declared.row.Row.{Row}
 use Rattle.relay_row.specs.declared.taken.Taken.{Taken}
 use Rattle.relay_row.proofs.Journals.{fronts, grew, grows, no_rows}
 use Rattle.account_state.specs.Folds.{account}
+use Rattle.relay_core.specs.Answering.{event_taken}
 use Rattle.relay_core.specs.Operating.{operated_as, operated_message}
-use Rattle.relay_core.specs.Rows.{event_taken, faulty_taken}
+use Rattle.relay_core.specs.Rows.{faulty_taken}
 use Rattle.relay_core.specs.Table.{next_of, no_answers}
 use Rattle.relay_core.specs.declared.answers.Answers.{Answers}
 use Rattle.relay_core.specs.declared.decision.Decision.{Decision}

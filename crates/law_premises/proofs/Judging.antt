@@ -19,9 +19,8 @@ use Rattle.commit_check.specs.Step.{is_gap}
 use Rattle.commit_check.specs.Opening.{IsOpened}
 use Rattle.commit_check.specs.declared.opened.Opened.{Opened}
 use Rattle.sha2.specs.Sha256.{sha256}
-use Rattle.relay_core.specs.Decide.{Checks, Outside, absent, decided_event}
+use Rattle.relay_core.specs.Decide.{Checks, Outside, absent, decided_event, refusal_in}
 use Rattle.relay_core.specs.Opening.{OpensRight}
-use Rattle.relay_core.specs.Table.{refusal_in}
 use Rattle.relay_core.specs.declared.limits.TheConstants.{LONGEST_MESSAGE}
 use Rattle.relay_law.specs.Calls.{SayWhatCallsAnswer}
 use Rattle.relay_law.specs.Covered.{IsCovered}

@@ -19,10 +19,9 @@ use Rattle.relay_row.specs.declared.row.Row.{Row}
 use Rattle.account_state.specs.Folds.{account}
 use Rattle.account_state.specs.declared.repo.Repo.{Repo}
 use Rattle.commit_check.specs.Step.{StopsAt, empty_root}
-use Rattle.relay_core.specs.Decide.{Checks}
+use Rattle.relay_core.specs.Decide.{Checks, refusal_in}
 use Rattle.relay_core.specs.Opening.{IsHeadOf, OpensRight}
 use Rattle.relay_core.specs.Runs.{IsMadeBy, Run}
-use Rattle.relay_core.specs.Table.{refusal_in}
 use Rattle.relay_law.specs.Chains.{chains}
 use Rattle.relay_law.specs.Right.{LinksRight}
 use Rattle.relay_law.specs.Sound.{AreLinked, IsSound}

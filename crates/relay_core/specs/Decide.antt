@@ -1,11 +1,12 @@
--- What is decided of a message, for all answers that there could be (own).
-use Rattle.std.specs.Prelude.{ℕ, ◌+◌, Bool, true, false, not, List, [], ◌∷◌, Option, Some, None, Result, Ok, Err, if◌then◌else◌, nat_le}
+-- What is decided of a message, for all answers that there could be: the first refusal that applies,
+-- and the row (own).
+use Rattle.std.specs.Prelude.{ℕ, ◌+◌, ◌/◌, Bool, true, false, not, List, [], ◌∷◌, Option, Some, None, Result, Ok, Err, if◌then◌else◌, nat_le, nat_lt}
 use Rattle.std.specs.FinMap as map
 use Rattle.at_car.specs.Blocks.{BlockMap}
 use Rattle.at_car.specs.Writing.{written}
 use Rattle.at_event.specs.Refusals.{code_of}
 use Rattle.at_event.specs.Seen.{Seen}
-use Rattle.at_event.specs.Writing.{event_message, sync_payload}
+use Rattle.at_event.specs.Writing.{event_message, out_length, out_of, sync_payload}
 use Rattle.at_event.specs.declared.event.Body.{Body}
 use Rattle.at_event.specs.declared.frame.Frame.{Frame}
 use Rattle.at_event.specs.declared.head.Head.{Head}
@@ -18,12 +19,9 @@ use Rattle.relay_row.specs.declared.taken.Taken.{Taken}
 use Rattle.account_state.specs.Folds.{last_rev}
 use Rattle.account_state.specs.State.{State}
 use Rattle.account_state.specs.declared.repo.Repo.{Repo}
-use Rattle.relay_core.specs.Rows.{event_taken, faulty_taken}
-use Rattle.relay_core.specs.Table.{TableLine, told, asked, event_lines, is_ahead, is_held}
-use Rattle.relay_core.specs.declared.answers.Answers.{Answers}
-use Rattle.relay_core.specs.declared.decision.Decision.{Decision}
+use Rattle.relay_core.specs.Rows.{effect_of, faulty_taken, kind_number, refused_row}
 use Rattle.relay_core.specs.declared.decision.Pass.{Pass}
-use Rattle.relay_core.specs.declared.limits.TheConstants.{FETCHED_AHEAD, FETCHED_UNSIGNED}
+use Rattle.relay_core.specs.declared.limits.TheConstants.{FETCHED_AHEAD, FETCHED_UNSIGNED, LONGEST_MESSAGE, MOST_AHEAD}
 
 -- What opening and linking say: functions of the event, and of what is known of its account's
 -- repository.
@@ -44,6 +42,12 @@ pub record Outside : Type 0 where
   pub home : Bool
   pub verdict : Bool
   pub fetched : Found
+
+-- A revision is far ahead of the moment. In a row that keeps none, no revision is: rows were once
+-- made without one.
+abbrev pub is_ahead : ℕ → Option ℕ → Bool
+is_ahead rev None = false
+is_ahead rev (Some moment) = nat_lt (moment + MOST_AHEAD) (rev / 1024)
 
 -- the block of a commit, and no other
 abbrev pub commit_blocks : Head → List ℕ → BlockMap
@@ -74,71 +78,98 @@ whole_under did time head records block n = record {
   message = sync_message did time head block n;
 }
 
--- what was found, under the number behind the last one
+-- what was found, under the number after the last one
 abbrev pub fetched_as : ℕ → Seen → Found → Fetched
 fetched_as last e absent = Fetched.Absent
 fetched_as last e (unfit n) = Fetched.Refused n
 fetched_as last e (found head records block) =
     Fetched.Whole (whole_under e.did e.time head records block (last + 1))
 
-abbrev pub as_result : Option Refusal → Result (Unit {0}) Refusal
-as_result None = Ok tt
-as_result (Some r) = Err r
-
--- the answers to all questions
-abbrev pub answers : Checks → ℕ → State → Seen → Outside → Answers
-answers checks last a e o = record {
-  moment = Some o.moment;
-  refreshed = true;
-  home = Some o.home;
-  opened = Some (checks.opens e (last_rev a.repo));
-  verdict = Some o.verdict;
-  linked = Some (as_result (checks.links e a.repo));
-  fetched = Some (fetched_as last e o.fetched);
-}
-
--- the refusal of a line, where it is known to apply
-abbrev pub condition : TableLine → Option Refusal
-condition (told o) = o
-condition (asked q None) = None
-condition (asked q (Some o)) = o
-
-abbrev pub or_later : Option Refusal → Option Refusal → Option Refusal
-or_later None o = o
-or_later (Some r) o = Some r
-
--- the first refusal that applies
-abbrev pub first_refusal : List TableLine → Option Refusal
-first_refusal [] = None
-first_refusal (line ∷ lines) = or_later (condition line) (first_refusal lines)
-
 abbrev pub is_found : Found → Bool
 is_found absent = false
 is_found (unfit n) = false
 is_found (found head records block) = true
 
--- the first refusal of an event that applies
-abbrev pub refusal_of : Checks → State → Seen → Outside → Option Refusal
-refusal_of checks a e o = first_refusal (event_lines a e (answers checks 0 a e o))
+-- the refusal, where the test holds
+abbrev pub when : Bool → Refusal → Option Refusal
+when test r = if test then Some r else None
 
--- what is decided of an event whose first refusal is this
-abbrev pub decision_for : State → Body → Found → Option Refusal → Decision
-decision_for a body f None = record {
+abbrev pub refusal_in : {A : Type 0} → Result A Refusal → Option Refusal
+refusal_in (Ok x) = None
+refusal_in (Err r) = Some r
+
+-- the first refusal that applies
+abbrev pub first_refusal : List (Option Refusal) → Option Refusal
+first_refusal [] = None
+first_refusal (None ∷ others) = first_refusal others
+first_refusal (Some r ∷ others) = Some r
+
+-- the refusals of a commit and of a sync in their order, and those that follow
+abbrev pub repo_refusals : Checks → State → Seen → ℕ → Outside → Option ℕ
+    → List (Option Refusal) → List (Option Refusal)
+repo_refusals checks a e rev o moment others =
+    when (not o.home) Refusal.NotHome ∷ when (not a.active) Refusal.Inactive
+    ∷ when a.down Refusal.TakenDown ∷ refusal_in (checks.opens e (last_rev a.repo))
+    ∷ when (is_ahead rev moment) Refusal.FutureRev ∷ when (not o.verdict) Refusal.BadSignature
+    ∷ others
+
+-- the refusals of an event's kind in their order
+abbrev pub body_refusals : Checks → State → Seen → Body → Outside → Option ℕ
+    → List (Option Refusal)
+body_refusals checks a e (Body.Commit c) o moment =
+    repo_refusals checks a e c.rev o moment (checks.links e a.repo ∷ [])
+body_refusals checks a e (Body.Sync s) o moment = repo_refusals checks a e s.rev o moment []
+body_refusals checks a e Body.Identity o moment =
+    when (not o.home) Refusal.NotHome ∷ when a.down Refusal.TakenDown ∷ []
+body_refusals checks a e (Body.Account b) o moment = when (not o.home) Refusal.NotHome ∷ []
+
+-- the first refusal of an event that applies at a moment
+abbrev pub refusal_at : Checks → State → Seen → Outside → Option ℕ → Option Refusal
+refusal_at checks a e o moment = first_refusal
+    (when (nat_lt LONGEST_MESSAGE (out_length e)) Refusal.TooLong
+    ∷ body_refusals checks a e e.body o moment)
+
+abbrev pub refusal_of : Checks → State → Seen → Outside → Option Refusal
+refusal_of checks a e o = refusal_at checks a e o (Some o.moment)
+
+-- an `#account` of an account that the operator took down is held
+abbrev pub is_held : State → Body → Bool
+is_held a (Body.Commit c) = false
+is_held a (Body.Sync s) = false
+is_held a Body.Identity = false
+is_held a (Body.Account b) = a.down
+
+-- the row of an accepted event: it goes out under the number after the last one, unless it is held
+abbrev pub accepted_row : Checks → ℕ → State → List ℕ → Seen → Option ℕ → Taken
+accepted_row checks last a host e moment = record {
+  host = host;
+  host_seq = e.seq;
+  did = e.did;
+  kind = kind_number e.body;
   refusal = None;
-  held = is_held a body;
-  gives = not (is_held a body);
+  seq = if is_held a e.body then 0 else last + 1;
+  message = if is_held a e.body then [] else out_of e (last + 1);
+  effect = effect_of e.body (Some (checks.opens e (last_rev a.repo)));
+  fetched = Fetched.NotAsked;
+  moment = moment;
 }
-decision_for a body f (Some r) = record {
-  refusal = Some r;
-  held = false;
-  gives = if loses (code_of r) then is_found f else false;
-}
+
+-- the row of an event by its first refusal. One that leaves the account lost is followed by a fetch
+abbrev pub event_row : Checks → ℕ → State → List ℕ → Seen → Outside → Option ℕ
+    → Option Refusal → Taken
+event_row checks last a host e o moment None = accepted_row checks last a host e moment
+event_row checks last a host e o moment (Some r) =
+    refused_row host e.seq e.did (kind_number e.body) r
+    (if loses (code_of r) then fetched_as last e o.fetched else Fetched.NotAsked) moment
+
+-- the row of an event that is decided at a moment, or without one
+abbrev pub event_taken_at : Checks → ℕ → State → List ℕ → Seen → Outside → Option ℕ → Taken
+event_taken_at checks last a host e o moment =
+    event_row checks last a host e o moment (refusal_at checks a e o moment)
 
 -- the row of an event that stands above the cursor
 abbrev pub decided_event : Checks → ℕ → State → List ℕ → Seen → Outside → Taken
-decided_event checks last a host e o =
-    event_taken last host e (decision_for a e.body o.fetched (refusal_of checks a e o))
-    (answers checks last a e o)
+decided_event checks last a host e o = event_taken_at checks last a host e o (Some o.moment)
 
 abbrev pub old_if : Bool → Option Pass
 old_if true = Some Pass.Old

@@ -10,7 +10,8 @@ use Rattle.account_state.specs.Dids.{named_account}
 use Rattle.account_state.specs.Entries.{entry}
 use Rattle.account_state.specs.Folds.{account}
 use Rattle.account_state.specs.State.{State}
-use Rattle.relay_core.specs.Decide.{Checks, Outside, sync_message, answers, refusal_of, decision_for, decided_event}
+use Rattle.relay_core.specs.Answering.{answers, decision_for, row_of}
+use Rattle.relay_core.specs.Decide.{Checks, Outside, sync_message, refusal_of, decided_event}
 use Rattle.relay_core.specs.Entries.{Holds}
 use Rattle.relay_core.specs.Ready.{IsReady}
 use Rattle.relay_core.specs.Runs.{Message, Run}
@@ -43,13 +44,15 @@ abbrev pub AsksOnce : Type 0
 AsksOnce = (cursor : ℕ) (a : State) (frame : Frame) (x : Answers) (q : Question)
     → next_of cursor a frame x ≡ Next.Ask q → is_open q x ≡ true
 
--- With all answers, an event above its host's cursor is decided by the first refusal of the table
--- that applies.
+-- With all answers, an event above its host's cursor is decided by the first refusal that applies,
+-- and the row that is made of this decision is the one that is decided.
 abbrev pub NextDecides : Type 0
-NextDecides = (checks : Checks) (last cursor : ℕ) (a : State) (e : Seen) (o : Outside)
-    → nat_le e.seq cursor ≡ false
-    → next_of cursor a (Frame.Event e) (answers checks last a e o)
-    ≡ Next.Done (decision_for a e.body o.fetched (refusal_of checks a e o))
+NextDecides = (checks : Checks) (last cursor : ℕ) (a : State) (host : List ℕ) (e : Seen)
+    (o : Outside) → nat_le e.seq cursor ≡ false
+    → (next_of cursor a (Frame.Event e) (answers checks last a e o)
+    ≡ Next.Done (decision_for a e.body o.fetched (refusal_of checks a e o)))
+    × (row_of last host (Frame.Event e) (decision_for a e.body o.fetched (refusal_of checks a e o))
+    (answers checks last a e o) ≡ Some (Row.Taken (decided_event checks last a host e o)))
 
 -- The block of a commit is read back from the relay's own message of it.
 abbrev pub BlocksReturn : Type 0

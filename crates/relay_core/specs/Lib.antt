@@ -1,8 +1,9 @@
 pub mod Stages
 pub mod Entries
-pub mod Table
 pub mod Rows
 pub mod Decide
+pub mod Table
+pub mod Answering
 pub mod Shown
 pub mod Runs
 pub mod Sending

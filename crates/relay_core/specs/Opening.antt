@@ -10,8 +10,7 @@ use Rattle.at_event.specs.declared.refusal.Refusal.{Refusal}
 use Rattle.event_checks.specs.Lines.{first_of}
 use Rattle.event_checks.specs.Opening.{CarResult, IsFound}
 use Rattle.event_checks.specs.Table.{car_in, open_lines, sync_lines}
-use Rattle.relay_core.specs.Decide.{Checks}
-use Rattle.relay_core.specs.Table.{refusal_in}
+use Rattle.relay_core.specs.Decide.{Checks, refusal_in}
 
 -- the first refusal that an event shows by itself, beside the last revision of its account
 abbrev pub shown_alone : Body → Option ℕ → Option Refusal

@@ -6,7 +6,7 @@ use Rattle.at_event.specs.declared.refusal.Refusal.{Refusal}
 use Rattle.relay_row.specs.declared.fetched.Fetched.{Fetched}
 use Rattle.relay_row.specs.declared.operated.Operated.{Operated}
 use Rattle.account_state.specs.State.{State}
-use Rattle.relay_core.specs.Table.{when}
+use Rattle.relay_core.specs.Decide.{when}
 
 -- an account is taken down where it isn't, and restored where it is down
 abbrev pub operate_refusal : State → Bool → Option Refusal

@@ -8,8 +8,7 @@ use Rattle.at_event.specs.declared.head.Head.{Head}
 use Rattle.relay_row.specs.Folds.{cursor}
 use Rattle.relay_row.specs.declared.row.Row.{Row}
 use Rattle.account_state.specs.Folds.{account, last_rev}
-use Rattle.relay_core.specs.Decide.{Checks}
-use Rattle.relay_core.specs.Table.{is_ahead}
+use Rattle.relay_core.specs.Decide.{Checks, is_ahead}
 use Rattle.relay_core.specs.declared.limits.TheConstants.{LONGEST_MESSAGE}
 
 -- Behind the journal J, a host's commit event stands above the host's cursor; its account is active

@@ -1,6 +1,6 @@
--- The table of refusals, with the questions between its lines: the one place where their order
--- stands (own).
-use Rattle.std.specs.Prelude.{ℕ, ◌+◌, ◌/◌, Bool, true, false, not, List, [], ◌∷◌, Option, Some, None, Result, Ok, Err, if◌then◌else◌, nat_lt, nat_le, option_map}
+-- The table of refusals with the questions between its lines, as the relay goes down it: what comes
+-- next by the answers so far (own).
+use Rattle.std.specs.Prelude.{ℕ, Bool, true, false, not, List, [], ◌∷◌, Option, Some, None, if◌then◌else◌, nat_lt, nat_le, option_map}
 use Rattle.at_event.specs.Refusals.{code_of}
 use Rattle.at_event.specs.Seen.{Seen}
 use Rattle.at_event.specs.Writing.{out_length}
@@ -10,11 +10,12 @@ use Rattle.at_event.specs.declared.refusal.Refusal.{Refusal}
 use Rattle.relay_row.specs.Rules.{loses}
 use Rattle.relay_row.specs.declared.fetched.Fetched.{Fetched}
 use Rattle.account_state.specs.State.{State}
+use Rattle.relay_core.specs.Decide.{is_ahead, is_held, refusal_in, when}
 use Rattle.relay_core.specs.declared.answers.Answers.{Answers}
 use Rattle.relay_core.specs.declared.answers.Question.{Question}
 use Rattle.relay_core.specs.declared.decision.Next.{Next}
 use Rattle.relay_core.specs.declared.decision.Pass.{Pass}
-use Rattle.relay_core.specs.declared.limits.TheConstants.{LONGEST_MESSAGE, MOST_AHEAD}
+use Rattle.relay_core.specs.declared.limits.TheConstants.{LONGEST_MESSAGE}
 
 -- a line of the table: a refusal that applies or not, as is known at once or by the answer to a
 -- question
@@ -32,19 +33,6 @@ no_answers = record {
   linked = None;
   fetched = None;
 }
-
--- the refusal, where the test holds
-abbrev pub when : Bool → Refusal → Option Refusal
-when test r = if test then Some r else None
-
-abbrev pub refusal_in : {A : Type 0} → Result A Refusal → Option Refusal
-refusal_in (Ok x) = None
-refusal_in (Err r) = Some r
-
--- a revision is far ahead of the moment
-abbrev pub is_ahead : ℕ → Option ℕ → Bool
-is_ahead rev None = false
-is_ahead rev (Some moment) = nat_lt (moment + MOST_AHEAD) (rev / 1024)
 
 abbrev pub moment_line : Answers → TableLine
 moment_line x = asked Question.Moment (option_map (λ moment. None) x.moment)
@@ -119,13 +107,6 @@ after_fetch r (Some (Fetched.Whole w)) = refused_with r true
 
 abbrev pub refused : Refusal → Option Fetched → Next
 refused r fetched = if loses (code_of r) then after_fetch r fetched else refused_with r false
-
--- an `#account` of an account that the operator took down is held
-abbrev pub is_held : State → Body → Bool
-is_held a (Body.Commit c) = false
-is_held a (Body.Sync s) = false
-is_held a Body.Identity = false
-is_held a (Body.Account b) = a.down
 
 abbrev pub accepted : State → Body → Next
 accepted a body =

@@ -6,8 +6,9 @@ ghost use Rattle.at_event.specs.declared.event.Body.{Body};
 ghost use Rattle.at_event.specs.declared.frame.Frame.{Frame as TheFrame};
 ghost use Rattle.at_event.specs.Writing.{out_length};
 ghost use Rattle.account_state.specs.State.{State};
+ghost use Rattle.relay_core.specs.Decide.{is_ahead};
 ghost use Rattle.relay_core.specs.Entries.{state_in};
-ghost use Rattle.relay_core.specs.Table.{walk, next_at, next_of, refused, accepted, is_ahead, home_line, link_line, repo_lines, body_lines, event_lines, faulty_lines};
+ghost use Rattle.relay_core.specs.Table.{walk, next_at, next_of, refused, accepted, home_line, link_line, repo_lines, body_lines, event_lines, faulty_lines};
 
 use crate::answers::{Answers, Question};
 use crate::decision::{Decision, Next, Pass};

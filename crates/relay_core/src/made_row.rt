@@ -3,7 +3,8 @@
 ghost use Rattle.std.specs.Prelude.{◌≡◌, ◌+◌, ◌<◌, true, IfOk, option_map, if◌then◌else◌};
 ghost use Rattle.at_cid.specs.declared.limits.TheConstants.{NUMBERS};
 ghost use Rattle.relay_row.specs.declared.row.Row.{Row};
-ghost use Rattle.relay_core.specs.Rows.{kind_number, head_effect, effect_of, own_effect, fetched_of, goes_out, event_taken, faulty_taken, row_of};
+ghost use Rattle.relay_core.specs.Answering.{own_effect, fetched_of, goes_out, event_taken, row_of};
+ghost use Rattle.relay_core.specs.Rows.{kind_number, head_effect, effect_of, faulty_taken};
 
 use crate::answers::Answers;
 use crate::decision::Decision;
@@ -43,7 +44,7 @@ fn copy_of(status: &Option<Words>) -> Result<Option<Words>, Memory>
 }
 
 fn effect(body: &Body, answers: &Answers) -> Result<Effect, Memory>
-    ensures { IfOk result (λ made. made ≡ effect_of body.now answers.now) }
+    ensures { IfOk result (λ made. made ≡ effect_of body.now answers.now.opened) }
 {
     match body {
         Body::Commit(_) | Body::Sync(_) => Ok(repo_effect(&answers.opened)),

@@ -9,11 +9,12 @@ use Rattle.relay_row.specs.Folds.{cursor, last_seq, host_in}
 use Rattle.relay_row.specs.declared.row.Row.{Row}
 use Rattle.relay_row.specs.declared.taken.Taken.{Taken}
 use Rattle.account_state.specs.Folds.{account}
-use Rattle.relay_core.specs.Decide.{Checks, decided_event}
+use Rattle.relay_core.specs.Decide.{Checks, decided_event, refusal_of}
 use Rattle.relay_core.specs.Rows.{faulty_taken}
 use Rattle.relay_core.specs.Runs.{Message, Turn, skipped_by, has_ended}
 use Rattle.relay_core.specs.Worlds.{World, IsMadeIn, RunsIn, outside, outside_of}
 use Rattle.relay_core.specs.declared.decision.Pass.{Pass}
+use Rattle.relay_core.proofs.Agreeing.{event_told}
 use Rattle.relay_law.specs.Laws.{MergesAgree}
 use Rattle.relay_law.specs.Merges.{only, Merge, TellsOf, Names, OneHome, AreAlike, AllAlike, rows_of}
 use Rattle.relay_law.proofs.Keys.{Key, or_some, decided_for, decided_keyed, key_in, row_in}
@@ -93,7 +94,7 @@ run_behind checks w (m ∷ messages) J ended keys rows h = turned checks w m mes
 -- ---- the rows of a host
 
 taken_host : (checks : Checks) (w : World) (n : ℕ) (k : Key) (f : Frame) (t : Taken) → decided_for checks w n k.host f k.before ≡ Some t → t.host ≡ k.host
-taken_host checks w n k (Frame.Event e) t h = let s = decided_event checks n k.before k.host e (outside w k.host k.before e) in let same : s ≡ t = cc in ap (λ (x : Taken). x.host) (sym same)
+taken_host checks w n k (Frame.Event e) t h = let s = decided_event checks n k.before k.host e (outside w k.host k.before e) in let same : s ≡ t = cc in ap (λ (x : Taken). x.host) (sym same) ∙ (event_told checks n k.before k.host e (outside w k.host k.before e) (Some (w.moment k.host (Frame.Event e))) (refusal_of checks k.before e (outside w k.host k.before e))).host
 taken_host checks w n k (Frame.Faulty seq) t h = let s = faulty_taken k.host seq (Some (w.moment k.host (Frame.Faulty seq))) in let same : s ≡ t = cc in ap (λ (x : Taken). x.host) (sym same)
 taken_host checks w n k Frame.Info t h = absurd cc
 taken_host checks w n k Frame.Error t h = absurd cc

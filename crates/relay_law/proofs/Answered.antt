@@ -29,9 +29,8 @@ use Rattle.commit_check.proofs.Objects.{data_held, opened_holds}
 use Rattle.commit_check.proofs.Steps.{under_links}
 use Rattle.repo_sync.specs.Sync.{IsSyncAnswer}
 use Rattle.repo_sync.specs.declared.found.Found.{Found}
-use Rattle.relay_core.specs.Decide.{Checks}
+use Rattle.relay_core.specs.Decide.{Checks, refusal_in}
 use Rattle.relay_core.specs.Opening.{OpensRight, IsHeadIn, IsHeadOf, shown_alone}
-use Rattle.relay_core.specs.Table.{refusal_in}
 use Rattle.relay_law.specs.Calls.{IsOpenAnswer, IsLinkAnswer, opened_head, found_head}
 use Rattle.relay_law.specs.Laws.{CallsAnswerRight}
 use Rattle.relay_law.specs.Right.{LinksRight, expect_of}

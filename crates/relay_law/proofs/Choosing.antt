@@ -22,9 +22,8 @@ use Rattle.commit_check.proofs.Formed.{commit_read}
 use Rattle.commit_check.proofs.Held.{car_linked, same_blocks, same_data}
 use Rattle.commit_check.proofs.Objects.{data_held}
 use Rattle.commit_check.proofs.Steps.{under_links}
-use Rattle.relay_core.specs.Decide.{Checks}
+use Rattle.relay_core.specs.Decide.{Checks, refusal_in}
 use Rattle.relay_core.specs.Opening.{IsHeadIn, IsHeadOf, shown_alone}
-use Rattle.relay_core.specs.Table.{refusal_in}
 use Rattle.relay_law.specs.Laws.{SomeChecksAreRight}
 use Rattle.relay_law.specs.Right.{expect_of}
 

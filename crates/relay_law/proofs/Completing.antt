@@ -20,11 +20,11 @@ use Rattle.commit_check.proofs.Steps.{complete_by, not_stopped, under_links}
 use Rattle.std.proofs.lemmas.Bool.{or_parts}
 use Rattle.std.specs.List.{list_any}
 use Rattle.commit_check.specs.Step.{lacks_prev, strays}
-use Rattle.relay_core.specs.Decide.{Checks, Found, decided_event, decision_for, refusal_of}
+use Rattle.relay_core.specs.Decide.{Checks, decided_event, refusal_of, refusal_in}
 use Rattle.relay_core.specs.Opening.{OpensRight, shown_alone}
 use Rattle.relay_core.specs.Ready.{IsReady}
-use Rattle.relay_core.specs.Table.{refusal_in}
 use Rattle.relay_core.proofs.Accepting.{ready_decides}
+use Rattle.relay_core.proofs.Agreeing.{event_told}
 use Rattle.relay_law.specs.Covered.{IsCovered}
 use Rattle.relay_law.specs.Laws.{CoveredAreAccepted}
 use Rattle.relay_law.specs.Right.{LinksRight, expect_of}
@@ -72,15 +72,11 @@ covered_ready checks opens links J host e moment read c =
       links = covered_links checks links J host e moment read c;
     }
 
-told_refusal : (a : State) (body : Body) (f : Found) (q : Option Refusal) → (decision_for a body f q).refusal ≡ q
-told_refusal a body f None = refl
-told_refusal a body f (Some r) = refl
-
 taken_is : (s t : Taken) → Some s ≡ Some t → s ≡ t
 taken_is s t e = cc
 
 pub covered_accepted : CoveredAreAccepted
 covered_accepted checks opens links J host e o t read covered is =
     let a = account e.did J in
-    ap (λ (s : Taken). s.refusal) (sym (taken_is (decided_event checks (last_seq J) a host e o) t is)) ∙ told_refusal a e.body o.fetched (refusal_of checks a e o)
+    ap (λ (s : Taken). s.refusal) (sym (taken_is (decided_event checks (last_seq J) a host e o) t is)) ∙ (event_told checks (last_seq J) a host e o (Some o.moment) (refusal_of checks a e o)).refusal
     ∙ ready_decides checks J host e o (covered_ready checks opens links J host e o.moment read covered)

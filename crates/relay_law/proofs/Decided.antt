@@ -15,14 +15,15 @@ use Rattle.relay_row.specs.declared.row.Row.{Row}
 use Rattle.relay_row.specs.declared.taken.Taken.{Taken}
 use Rattle.account_state.specs.Folds.{account, last_rev}
 use Rattle.account_state.specs.State.{State}
-use Rattle.relay_core.specs.Decide.{Checks, Found, absent, unfit, found, Outside, answers, as_result, decided_event, decision_for, fetched_as, old_if, refusal_of}
+use Rattle.relay_core.specs.Answering.{answers, as_result, decision_for}
+use Rattle.relay_core.specs.Decide.{Checks, Found, absent, unfit, found, Outside, decided_event, fetched_as, old_if, refusal_of, refusal_in}
 use Rattle.relay_core.specs.Opening.{IsHeadOf, OpensRight, shown_alone}
 use Rattle.relay_core.specs.Rows.{faulty_taken}
-use Rattle.relay_core.specs.Table.{next_of, refusal_in}
+use Rattle.relay_core.specs.Table.{next_of}
 use Rattle.relay_core.specs.declared.answers.Answers.{Answers}
 use Rattle.relay_core.specs.declared.decision.Decision.{Decision}
 use Rattle.relay_core.specs.declared.decision.Next.{Next}
-use Rattle.relay_core.proofs.Agreeing.{next_decided}
+use Rattle.relay_core.proofs.Agreeing.{next_decided, row_decided}
 use Rattle.relay_law.specs.Formed.{AreAnswersTo, AreFormedFor, IsFetchedBehind, IsFormedFound, IsOpenedAs}
 use Rattle.relay_law.specs.Laws.{DecidedRowsAreFormed}
 use Rattle.relay_law.specs.Right.{LinksRight}
@@ -81,7 +82,8 @@ decided_formed checks opens links J host (Frame.Event e) o t journal of_host rea
     let a = account e.did J in
     let P : Taken → Type 0 = λ s. seq_in (Row.Taken s) < NUMBERS → IsJournal (J ++ Row.Taken s ∷ []) in
     subst P (taken_same (decided_event checks n a host e o) t is) (made_formed J host (Frame.Event e) (answers checks n a e o) (decision_for a e.body o.fetched (refusal_of checks a e o)) (Row.Taken (decided_event checks n a host e o))
-    journal of_host read (answers_right checks opens links n a e o read formed) (next_decided checks n (cursor host J) a e o (not_passed (nat_le e.seq (cursor host J)) new)) refl) below
+    journal of_host read (answers_right checks opens links n a e o read formed) (next_decided checks n (cursor host J) a e o (not_passed (nat_le e.seq (cursor host J)) new))
+    (ap (λ (s : Taken). Some (Row.Taken s)) (row_decided checks n a host e o (refusal_of checks a e o)))) below
 decided_formed checks opens links J host (Frame.Faulty seq) o t journal of_host read formed new is below =
     let P : Taken → Type 0 = λ s. seq_in (Row.Taken s) < NUMBERS → IsJournal (J ++ Row.Taken s ∷ []) in
     subst P (taken_same (faulty_taken host seq (Some o.moment)) t is) (made_formed J host (Frame.Faulty seq) (moment_alone o.moment) bad_event (Row.Taken (faulty_taken host seq (Some o.moment)))

@@ -27,9 +27,11 @@ use Rattle.relay_row.specs.declared.taken.Effect.{Effect}
 use Rattle.relay_row.specs.declared.taken.Taken.{Taken}
 use Rattle.relay_row.proofs.Journals.{grows}
 use Rattle.account_state.specs.Folds.{account, last_rev}
+use Rattle.relay_core.specs.Answering.{fetched_of, event_taken, row_of}
+use Rattle.relay_core.specs.Decide.{when, is_held}
 use Rattle.relay_core.specs.Opening.{IsHeadOf}
-use Rattle.relay_core.specs.Rows.{kind_number, head_effect, effect_of, fetched_of, event_taken, faulty_taken, row_of}
-use Rattle.relay_core.specs.Table.{told, Walk, waits, refuses, passes, walk, when, body_lines, event_lines, is_held, after_fetch, refused, next_at, next_of, did_of}
+use Rattle.relay_core.specs.Rows.{kind_number, head_effect, effect_of, faulty_taken}
+use Rattle.relay_core.specs.Table.{told, Walk, waits, refuses, passes, walk, body_lines, event_lines, after_fetch, refused, next_at, next_of, did_of}
 use Rattle.relay_core.specs.declared.answers.Answers.{Answers}
 use Rattle.relay_core.specs.declared.decision.Decision.{Decision}
 use Rattle.relay_core.specs.declared.decision.Next.{Next}
@@ -269,7 +271,7 @@ module _ (J : List Row) (host : List ℕ) (e : Seen) (x : Answers) (of_host : na
 
   accepted_row : (body : Body) → e.body ≡ body → IsBodyKept body → AllPass (body_lines (account e.did J) body x) → nat_lt LONGEST_MESSAGE (out_length e) ≡ false → (held : Bool) → is_held (account e.did J) body ≡ held
       → first_seq (cond (eqb (cond (not held) (last_seq J + 1) 0) 0) [] ((cond (not held) (last_seq J + 1) 0, cond (not held) (out_of e (last_seq J + 1)) []) ∷ [])) < NUMBERS
-      → StandsBehind J (Row.Taken (accepted_taken host e.seq e.did body (cond (not held) (last_seq J + 1) 0) (cond (not held) (out_of e (last_seq J + 1)) []) (effect_of body x) x.moment))
+      → StandsBehind J (Row.Taken (accepted_taken host e.seq e.did body (cond (not held) (last_seq J + 1) 0) (cond (not held) (out_of e (last_seq J + 1)) []) (effect_of body x.opened) x.moment))
   accepted_row (Body.Commit c) same forms pass short false held below =
       let head = opened_head x.opened pass.1.1.1.0 in
       sent_row (Body.Commit c) (head_effect x.opened) (head_row (Body.Commit c) same head.0 head.1 (λ h of. found_head c.blocks c.rev h forms.0 forms.1 of)).0 short below

@@ -26,12 +26,11 @@ use Rattle.relay_row.proofs.Fits.{FitsFetched, taken_fits}
 use Rattle.account_state.specs.Folds.{account, last_rev}
 use Rattle.account_state.specs.State.{State}
 use Rattle.account_state.specs.declared.repo.Repo.{Repo}
-use Rattle.relay_core.specs.Decide.{Checks, Found, Outside, absent, unfit, found, answers, decided_event, decision_for, fetched_as, first_refusal, refusal_of}
+use Rattle.relay_core.specs.Decide.{Checks, Found, Outside, absent, unfit, found, decided_event, fetched_as, first_refusal, refusal_of, refusal_in, when, body_refusals, event_row}
 use Rattle.relay_core.specs.Opening.{IsHeadOf, OpensRight, shown_alone}
-use Rattle.relay_core.specs.Rows.{event_taken, faulty_taken, head_effect, kind_number}
+use Rattle.relay_core.specs.Rows.{faulty_taken, head_effect, kind_number}
 use Rattle.relay_core.specs.Runs.{Message, Turn, IsMadeBy, RunFrom, skipped_by, has_ended}
 use Rattle.relay_core.specs.Shown.{found_in, shown}
-use Rattle.relay_core.specs.Table.{body_lines, refusal_in, when}
 use Rattle.relay_core.specs.declared.decision.Pass.{Pass}
 use Rattle.relay_core.specs.declared.limits.TheConstants.{LONGEST_MESSAGE}
 use Rattle.relay_law.specs.Laws.{AreEvents}
@@ -82,7 +81,7 @@ gives_commit checks opens links a e c head body opened linked =
     }
 
 accepted_gives : (checks : Checks) → OpensRight checks → LinksRight checks → (n : ℕ) (a : State) (host : List ℕ) (e : Seen) (o : Outside) → IsEvent e
-    → (body : Body) → e.body ≡ body → first_refusal (body_lines a body (answers checks 0 a e o)) ≡ None → is_taken (accepted_taken checks n a host e o body) ≡ true
+    → (body : Body) → e.body ≡ body → first_refusal (body_refusals checks a e body o (Some o.moment)) ≡ None → is_taken (accepted_taken checks n a host e o body) ≡ true
     → EffectGives a.repo (accepted_taken checks n a host e o body) (accepted_taken checks n a host e o body).effect
 unfolding accepted_taken
 accepted_gives checks opens links n a host e o read (Body.Commit c) body q is =
@@ -116,10 +115,10 @@ event_gives : (checks : Checks) → OpensRight checks → LinksRight checks → 
     → EffectGives a.repo (decided_event checks n a host e o) (decided_event checks n a host e o).effect
 unfolding accepted_taken
 event_gives checks opens links n a host e o read =
-    elim (refusal_of checks a e o) as (λ q. refusal_of checks a e o ≡ q → is_taken (event_taken n host e (decision_for a e.body o.fetched q) (answers checks n a e o)) ≡ true
-    → EffectGives a.repo (event_taken n host e (decision_for a e.body o.fetched q) (answers checks n a e o)) (event_taken n host e (decision_for a e.body o.fetched q) (answers checks n a e o)).effect) [
+    elim (refusal_of checks a e o) as (λ q. refusal_of checks a e o ≡ q → is_taken (event_row checks n a host e o (Some o.moment) q) ≡ true
+    → EffectGives a.repo (event_row checks n a host e o (Some o.moment) q) (event_row checks n a host e o (Some o.moment) q).effect) [
       | Some r ↦ λ q is. tt
-      | None ↦ λ q is. accepted_gives checks opens links n a host e o read e.body refl (later_none (when (nat_lt LONGEST_MESSAGE (out_length e)) Refusal.TooLong) (first_refusal (body_lines a e.body (answers checks 0 a e o))) q) is
+      | None ↦ λ q is. accepted_gives checks opens links n a host e o read e.body refl (later_none (when (nat_lt LONGEST_MESSAGE (out_length e)) Refusal.TooLong) (body_refusals checks a e e.body o (Some o.moment)) q) is
     ] refl
 
 -- ---- the relay's own `#sync`
@@ -139,9 +138,9 @@ asked_gives false n e f timed read gives fits = tt
 fetch_gives : (checks : Checks) (n : ℕ) (a : State) (host : List ℕ) (e : Seen) (o : Outside) → IsEvent e → FoundGives o.fetched → is_taken (decided_event checks n a host e o) ≡ true
     → HoldsOfWhole (SendsSync e.did) (decided_event checks n a host e o).fetched
 fetch_gives checks n a host e o read gives =
-    elim (refusal_of checks a e o) as (λ q. is_taken (event_taken n host e (decision_for a e.body o.fetched q) (answers checks n a e o)) ≡ true
-    → HoldsOfWhole (SendsSync e.did) (event_taken n host e (decision_for a e.body o.fetched q) (answers checks n a e o)).fetched) [
-      | Some r ↦ λ is. asked_gives (loses (code_of r)) n e o.fetched true read gives (taken_fits (event_taken n host e (decision_for a e.body o.fetched (Some r)) (answers checks n a e o)) is).fetched
+    elim (refusal_of checks a e o) as (λ q. is_taken (event_row checks n a host e o (Some o.moment) q) ≡ true
+    → HoldsOfWhole (SendsSync e.did) (event_row checks n a host e o (Some o.moment) q).fetched) [
+      | Some r ↦ λ is. asked_gives (loses (code_of r)) n e o.fetched true read gives (taken_fits (event_row checks n a host e o (Some o.moment) (Some r)) is).fetched
       | None ↦ λ is. tt
     ]
 

@@ -1,5 +1,5 @@
 -- What a row comes from, but for its numbers: the host, the message, and the account before it where the host is its home.
-use Rattle.std.proofs.Common.{◌≡◌, ℕ, Bool, true, false, not, ◌&&◌, List, [], Option, Some, None, refl, ap, ◌∙◌, sym, cond, subst}
+use Rattle.std.proofs.Common.{◌≡◌, ℕ, Bool, true, false, not, ◌&&◌, List, [], ◌∷◌, Option, Some, None, refl, ap, ◌∙◌, sym, cond, subst}
 use Rattle.std.specs.Prelude.{if◌then◌else◌, nat_lt}
 use Rattle.std.specs.Str.{bytes_eq}
 use Rattle.at_event.specs.Refusals.{code_of}
@@ -16,9 +16,9 @@ use Rattle.relay_row.specs.declared.taken.Effect.{Effect}
 use Rattle.relay_row.specs.declared.taken.Taken.{Taken}
 use Rattle.account_state.specs.Folds.{account, account_after, fresh, moved, taken_by, effected, lost, refetched}
 use Rattle.account_state.specs.State.{State}
-use Rattle.relay_core.specs.Decide.{Checks, Outside, Found, absent, unfit, found, fetched_as, answers, first_refusal, or_later, refusal_of, decision_for, decided_event, decided}
-use Rattle.relay_core.specs.Rows.{event_taken, faulty_taken, own_effect, effect_of, fetched_of, kind_number}
-use Rattle.relay_core.specs.Table.{body_lines, did_of}
+use Rattle.relay_core.specs.Decide.{Checks, Outside, Found, absent, unfit, found, fetched_as, first_refusal, refusal_of, decided_event, decided, body_refusals, event_row, when}
+use Rattle.relay_core.specs.Rows.{faulty_taken, kind_number}
+use Rattle.relay_core.specs.Table.{did_of}
 use Rattle.relay_core.specs.Worlds.{World, outside, outside_of}
 use Rattle.relay_core.specs.declared.limits.TheConstants.{LONGEST_MESSAGE}
 use Rattle.relay_law.specs.Merges.{IsOf}
@@ -32,16 +32,18 @@ far e = if nat_lt LONGEST_MESSAGE (out_length e) then Refusal.TooLong else Refus
 far_keeps : (e : Seen) → loses (code_of (far e)) ≡ false
 far_keeps e = elim (nat_lt LONGEST_MESSAGE (out_length e)) as (λ b. loses (code_of (cond b Refusal.TooLong Refusal.NotHome)) ≡ false) [ true ↦ refl | false ↦ refl ]
 
-far_body : (checks : Checks) (a : State) (e : Seen) (o : Outside) (body : Body) → o.home ≡ false → first_refusal (body_lines a body (answers checks 0 a e o)) ≡ Some Refusal.NotHome
+far_body : (checks : Checks) (a : State) (e : Seen) (o : Outside) (body : Body) → o.home ≡ false → first_refusal (body_refusals checks a e body o (Some o.moment)) ≡ Some Refusal.NotHome
 far_body checks a e o (Body.Commit c) h = rw h refl
 far_body checks a e o (Body.Sync s) h = rw h refl
 far_body checks a e o Body.Identity h = rw h refl
 far_body checks a e o (Body.Account b) h = rw h refl
 
+far_first : (long : Bool) (others : List (Option Refusal)) → first_refusal others ≡ Some Refusal.NotHome → first_refusal (when long Refusal.TooLong ∷ others) ≡ Some (cond long Refusal.TooLong Refusal.NotHome)
+far_first true others h = refl
+far_first false others h = h
+
 far_refusal : (checks : Checks) (a : State) (e : Seen) (o : Outside) → o.home ≡ false → refusal_of checks a e o ≡ Some (far e)
-far_refusal checks a e o h =
-    rw (far_body checks a e o e.body h)
-    (elim (nat_lt LONGEST_MESSAGE (out_length e)) as (λ b. or_later (cond b (Some Refusal.TooLong) None) (Some Refusal.NotHome) ≡ Some (cond b Refusal.TooLong Refusal.NotHome)) [ true ↦ refl | false ↦ refl ])
+far_refusal checks a e o h = far_first (nat_lt LONGEST_MESSAGE (out_length e)) (body_refusals checks a e e.body o (Some o.moment)) (far_body checks a e o e.body h)
 
 abbrev pub far_taken : List ℕ → Seen → ℕ → Taken
 far_taken host e moment = record {
@@ -66,30 +68,30 @@ far_account did b host e moment =
 
 -- the number given doesn't move the account
 
-effect_free : (checks : Checks) (a : State) (e : Seen) (body : Body) (o : Outside) (n k : ℕ) → effect_of body (answers checks n a e o) ≡ effect_of body (answers checks k a e o)
-effect_free checks a e (Body.Commit c) o n k = refl
-effect_free checks a e (Body.Sync s) o n k = refl
-effect_free checks a e Body.Identity o n k = refl
-effect_free checks a e (Body.Account b) o n k = refl
-
-own_free : (checks : Checks) (a : State) (e : Seen) (body : Body) (o : Outside) (q : Option Refusal) (n k : ℕ) → own_effect q body (answers checks n a e o) ≡ own_effect q body (answers checks k a e o)
-own_free checks a e body o None n k = effect_free checks a e body o n k
-own_free checks a e body o (Some r) n k = refl
-
 made_free : (b : State) (e : Seen) (f : Found) (n k : ℕ) → refetched b (fetched_as n e f) ≡ refetched b (fetched_as k e f)
 made_free b e absent n k = refl
 made_free b e (unfit i) n k = refl
 made_free b e (found head records block) n k = refl
 
-fetched_free : (b : State) (e : Seen) (f : Found) (q : Option Refusal) (n k : ℕ) → refetched b (fetched_of q (Some (fetched_as n e f))) ≡ refetched b (fetched_of q (Some (fetched_as k e f)))
-fetched_free b e f None n k = refl
-fetched_free b e f (Some r) n k =
-    elim (loses (code_of r)) as (λ t. refetched b (cond t (fetched_as n e f) Fetched.NotAsked) ≡ refetched b (cond t (fetched_as k e f) Fetched.NotAsked)) [ true ↦ made_free b e f n k | false ↦ refl ]
+fetched_free : (b : State) (e : Seen) (f : Found) (asked : Bool) (n k : ℕ) → refetched b (cond asked (fetched_as n e f) Fetched.NotAsked) ≡ refetched b (cond asked (fetched_as k e f) Fetched.NotAsked)
+fetched_free b e f true n k = made_free b e f n k
+fetched_free b e f false n k = refl
 
 event_free : (checks : Checks) (a : State) (host : List ℕ) (e : Seen) (o : Outside) (b : State) (q : Option Refusal) (n k : ℕ)
-    → taken_by b (event_taken n host e (decision_for a e.body o.fetched q) (answers checks n a e o)) ≡ taken_by b (event_taken k host e (decision_for a e.body o.fetched q) (answers checks k a e o))
-event_free checks a host e o b None n k = ap (λ (x : Effect). effected b x) (effect_free checks a e e.body o n k)
-event_free checks a host e o b (Some r) n k = fetched_free (lost b (Some r)) e o.fetched (Some r) n k
+    → taken_by b (event_row checks n a host e o (Some o.moment) q) ≡ taken_by b (event_row checks k a host e o (Some o.moment) q)
+event_free checks a host e o b None n k = refl
+event_free checks a host e o b (Some r) n k = fetched_free (lost b (Some r)) e o.fetched (loses (code_of r)) n k
+
+-- the account and the cursor that the row of an event moves
+event_moves : (checks : Checks) (n : ℕ) (a : State) (host : List ℕ) (e : Seen) (o : Outside) (did : List ℕ) (b : State) (q : Option Refusal)
+    → account_after did b (Row.Taken (event_row checks n a host e o (Some o.moment) q)) ≡ cond (names did e.did) (taken_by b (event_row checks n a host e o (Some o.moment) q)) b
+event_moves checks n a host e o did b None = refl
+event_moves checks n a host e o did b (Some r) = refl
+
+event_cursor : (checks : Checks) (n : ℕ) (a : State) (host : List ℕ) (e : Seen) (o : Outside) (name : List ℕ) (c : ℕ) (q : Option Refusal)
+    → cursor_after name c (Row.Taken (event_row checks n a host e o (Some o.moment) q)) ≡ cond (names name host) e.seq c
+event_cursor checks n a host e o name c None = refl
+event_cursor checks n a host e o name c (Some r) = refl
 
 -- ---- keys
 
@@ -158,7 +160,9 @@ same_key w J K host Frame.Unknown same = refl
 -- rows of one key act alike
 
 event_account : (checks : Checks) (a : State) (host : List ℕ) (e : Seen) (o : Outside) (did : List ℕ) (b : State) (n m : ℕ) → account_after did b (Row.Taken (decided_event checks n a host e o)) ≡ account_after did b (Row.Taken (decided_event checks m a host e o))
-event_account checks a host e o did b n m = ap (λ (x : State). cond (names did e.did) x b) (event_free checks a host e o b (refusal_of checks a e o) n m)
+event_account checks a host e o did b n m =
+    let q = refusal_of checks a e o in
+    event_moves checks n a host e o did b q ∙ ap (λ (x : State). cond (names did e.did) x b) (event_free checks a host e o b q n m) ∙ sym (event_moves checks m a host e o did b q)
 
 frame_account : (checks : Checks) (w : World) (host : List ℕ) (f : Frame) (a : State) (did : List ℕ) (b : State) (n m : ℕ) → account_after did b (or_some (decided_for checks w n host f a)) ≡ account_after did b (or_some (decided_for checks w m host f a))
 frame_account checks w host (Frame.Event e) a did b n m = event_account checks a host e (outside w host a e) did b n m
@@ -171,7 +175,9 @@ pub keyed_account : (checks : Checks) (w : World) (k : Key) (did : List ℕ) (b 
 keyed_account checks w k did b n m = frame_account checks w k.host k.frame k.before did b n m
 
 frame_cursor : (checks : Checks) (w : World) (host : List ℕ) (f : Frame) (a : State) (name : List ℕ) (c n m : ℕ) → cursor_after name c (or_some (decided_for checks w n host f a)) ≡ cursor_after name c (or_some (decided_for checks w m host f a))
-frame_cursor checks w host (Frame.Event e) a name c n m = refl
+frame_cursor checks w host (Frame.Event e) a name c n m =
+    let o = outside w host a e in
+    event_cursor checks n a host e o name c (refusal_of checks a e o) ∙ sym (event_cursor checks m a host e o name c (refusal_of checks a e o))
 frame_cursor checks w host (Frame.Faulty seq) a name c n m = refl
 frame_cursor checks w host Frame.Info a name c n m = refl
 frame_cursor checks w host Frame.Error a name c n m = refl
@@ -193,7 +199,10 @@ names_none : (name : List ℕ) (c seq : ℕ) → cond (names name []) seq c ≡ 
 names_none name c seq = elim (bytes_eq name []) as (λ b. cond (not b && b) seq c ≡ c) [ true ↦ refl | false ↦ refl ]
 
 pub row_cursor : (checks : Checks) (w : World) (J : List Row) (host name : List ℕ) (f : Frame) (c : ℕ) → bytes_eq name host ≡ false → cursor_after name c (row_in checks w J host f) ≡ c
-row_cursor checks w J host name (Frame.Event e) c h = other_name name host c e.seq h
+row_cursor checks w J host name (Frame.Event e) c h =
+    let a = account e.did J in
+    let o = outside w host a e in
+    event_cursor checks (last_seq J) a host e o name c (refusal_of checks a e o) ∙ other_name name host c e.seq h
 row_cursor checks w J host name (Frame.Faulty seq) c h = other_name name host c seq h
 row_cursor checks w J host name Frame.Info c h = names_none name c 0
 row_cursor checks w J host name Frame.Error c h = names_none name c 0
@@ -212,7 +221,9 @@ far_stays checks w J host (Frame.Event e) did b far_home =
           let same : did ≡ e.did = names_same did e.did s in
           let home : w.home e.did host ≡ false = subst (λ (x : List ℕ). w.home x host ≡ false) same (far_home (sym same)) in
           ap (λ (x : Taken). account_after did b (Row.Taken x)) (far_event checks (last_seq J) a host e (outside w host a e) home) ∙ far_account did b host e (w.moment host (Frame.Event e))
-      | false ↦ λ s. ap (λ (x : Bool). cond x (taken_by b t) b) s
+      | false ↦ λ s.
+          let o = outside w host a e in
+          event_moves checks (last_seq J) a host e o did b (refusal_of checks a e o) ∙ ap (λ (x : Bool). cond x (taken_by b t) b) s
     ] refl
 far_stays checks w J host (Frame.Faulty seq) did b far_home = none_moves did b (taken_by b (faulty_taken host seq (Some (w.moment host (Frame.Faulty seq)))))
 far_stays checks w J host Frame.Info did b far_home = none_moves did b (taken_by b (faulty_taken [] 0 None))

@@ -14,11 +14,10 @@ use Rattle.relay_row.specs.declared.taken.Taken.{Taken}
 use Rattle.account_state.specs.Folds.{account, last_rev}
 use Rattle.account_state.specs.State.{State}
 use Rattle.account_state.specs.declared.repo.Repo.{Repo}
-use Rattle.relay_core.specs.Decide.{Checks, Outside, answers, first_refusal, refusal_of, decision_for, decided_event}
-use Rattle.relay_core.specs.Rows.{event_taken, faulty_taken, head_effect}
+use Rattle.relay_core.specs.Decide.{Checks, Outside, first_refusal, refusal_of, decided_event, when, body_refusals, event_row}
+use Rattle.relay_core.specs.Rows.{faulty_taken, head_effect}
 use Rattle.relay_core.specs.Runs.{Message, Turn, IsMadeBy, RunFrom, skipped_by, has_ended}
 use Rattle.relay_core.specs.Shown.{shown}
-use Rattle.relay_core.specs.Table.{body_lines, when}
 use Rattle.relay_core.specs.declared.decision.Pass.{Pass}
 use Rattle.relay_core.specs.declared.limits.TheConstants.{LONGEST_MESSAGE}
 use Rattle.relay_law.specs.Carried.{IsOfKnown, AreOfKnown}
@@ -42,7 +41,7 @@ quiet_no t Fetched.Absent m d none h = quiet_effect t.kind t.message t.effect m 
 quiet_no t (Fetched.Refused n) m d none h = quiet_effect t.kind t.message t.effect m d none h
 
 accepted_known : (checks : Checks) → AreRight checks → (n : ℕ) (a : State) (host : List ℕ) (e : Seen) (o : Outside) (m d : List ℕ) (rev : Option ℕ)
-    → (body : Body) → e.body ≡ body → first_refusal (body_lines a body (answers checks 0 a e o)) ≡ None → part_in (Row.Taken (accepted_taken checks n a host e o body)) ≡ commits m d → a.repo ≢ Repo.Lost rev
+    → (body : Body) → e.body ≡ body → first_refusal (body_refusals checks a e body o (Some o.moment)) ≡ None → part_in (Row.Taken (accepted_taken checks n a host e o body)) ≡ commits m d → a.repo ≢ Repo.Lost rev
 unfolding accepted_taken
 accepted_known checks right n a host e o m d rev (Body.Commit c) body q h =
     λ lost. right.not_lost e c rev body (subst (λ (r : Repo). checks.links e r ≡ None) lost (links_none checks a e c o q))
@@ -54,9 +53,9 @@ accepted_known checks right n a host e o m d rev (Body.Account b) body q h = abs
 event_known : (checks : Checks) → AreRight checks → (n : ℕ) (a : State) (host : List ℕ) (e : Seen) (o : Outside) (m d : List ℕ) (rev : Option ℕ) → part_in (Row.Taken (decided_event checks n a host e o)) ≡ commits m d → a.repo ≢ Repo.Lost rev
 unfolding accepted_taken
 event_known checks right n a host e o m d rev =
-    elim (refusal_of checks a e o) as (λ q. refusal_of checks a e o ≡ q → part_in (Row.Taken (event_taken n host e (decision_for a e.body o.fetched q) (answers checks n a e o))) ≡ commits m d → a.repo ≢ Repo.Lost rev) [
-      | Some r ↦ λ q h. let t = event_taken n host e (decision_for a e.body o.fetched (Some r)) (answers checks n a e o) in absurd (quiet_no t t.fetched m d refl h)
-      | None ↦ λ q h. accepted_known checks right n a host e o m d rev e.body refl (later_none (when (nat_lt LONGEST_MESSAGE (out_length e)) Refusal.TooLong) (first_refusal (body_lines a e.body (answers checks 0 a e o))) q) h
+    elim (refusal_of checks a e o) as (λ q. refusal_of checks a e o ≡ q → part_in (Row.Taken (event_row checks n a host e o (Some o.moment) q)) ≡ commits m d → a.repo ≢ Repo.Lost rev) [
+      | Some r ↦ λ q h. let t = event_row checks n a host e o (Some o.moment) (Some r) in absurd (quiet_no t t.fetched m d refl h)
+      | None ↦ λ q h. accepted_known checks right n a host e o m d rev e.body refl (later_none (when (nat_lt LONGEST_MESSAGE (out_length e)) Refusal.TooLong) (body_refusals checks a e e.body o (Some o.moment)) q) h
     ] refl
 
 taken_known : (checks : Checks) → AreRight checks → (J : List Row) (host : List ℕ) (f : Frame) (t : Taken) → IsMadeBy checks J (host, Ok f) (Row.Taken t) → IsOfKnown J (Row.Taken t)

@@ -23,11 +23,10 @@ use Rattle.relay_row.proofs.Fits.{FitsFetched, taken_fits}
 use Rattle.account_state.specs.Folds.{account}
 use Rattle.account_state.specs.State.{State}
 use Rattle.account_state.specs.declared.repo.Repo.{Repo}
-use Rattle.relay_core.specs.Decide.{Checks, Outside, Found, absent, unfit, found, answers, decided_event, decision_for, fetched_as, refusal_of}
-use Rattle.relay_core.specs.Rows.{event_taken, faulty_taken, kind_number}
+use Rattle.relay_core.specs.Decide.{Checks, Outside, Found, absent, unfit, found, decided_event, fetched_as, refusal_of, is_held, event_row}
+use Rattle.relay_core.specs.Rows.{faulty_taken, kind_number}
 use Rattle.relay_core.specs.Runs.{Message, Turn, IsMadeBy, RunFrom, skipped_by, has_ended}
 use Rattle.relay_core.specs.Shown.{shown}
-use Rattle.relay_core.specs.Table.{is_held}
 use Rattle.relay_core.specs.declared.decision.Pass.{Pass}
 use Rattle.relay_law.specs.Faithful.{AreReadBack, HoldsOfWhole, IsReadBack, SendsEvent, SendsRev}
 use Rattle.relay_law.specs.Laws.{AreEvents, RunsAreReadBack}
@@ -57,9 +56,9 @@ accepted_number t is some =
     let goes = numbered_or (is_positive t.seq && is_message t.message) (t.seq == 0) (is_empty t.message) (t.kind == 4) sent (λ zero. some (eqb-true t.seq 0 zero)) in
     (and_parts (nat_lt 0 t.seq) (is_number t.seq) (and_parts (is_positive t.seq) (is_message t.message) goes).0).1
 
-accepted_reads : (e : Seen) → IsEvent e → (t : Taken) (n : ℕ) (goes : Bool) → t.seq ≡ cond goes (n + 1) 0 → t.message ≡ cond goes (out_of e (n + 1)) [] → t.did ≡ e.did → t.kind ≡ kind_number e.body → is_accepted t ≡ true → EventRead t
-accepted_reads e read t n false seq message did kind is = λ some. absurd (some seq)
-accepted_reads e read t n true seq message did kind is = λ some.
+accepted_reads : (e : Seen) → IsEvent e → (t : Taken) (n : ℕ) (held : Bool) → t.seq ≡ cond held 0 (n + 1) → t.message ≡ cond held [] (out_of e (n + 1)) → t.did ≡ e.did → t.kind ≡ kind_number e.body → is_accepted t ≡ true → EventRead t
+accepted_reads e read t n true seq message did kind is = λ some. absurd (some seq)
+accepted_reads e read t n false seq message did kind is = λ some.
     let below : n + 1 < NUMBERS = ltb-true (n + 1) NUMBERS (subst (λ (k : ℕ). nat_lt k NUMBERS ≡ true) seq (accepted_number t is some)) in
     record {
       event = numbered e (n + 1);
@@ -71,12 +70,12 @@ accepted_reads e read t n true seq message did kind is = λ some.
 
 pub event_reads : (checks : Checks) (n : ℕ) (a : State) (host : List ℕ) (e : Seen) (o : Outside) → IsEvent e → is_taken (decided_event checks n a host e o) ≡ true → EventRead (decided_event checks n a host e o)
 event_reads checks n a host e o read =
-    elim (refusal_of checks a e o) as (λ q. is_taken (event_taken n host e (decision_for a e.body o.fetched q) (answers checks n a e o)) ≡ true
-    → EventRead (event_taken n host e (decision_for a e.body o.fetched q) (answers checks n a e o))) [
+    elim (refusal_of checks a e o) as (λ q. is_taken (event_row checks n a host e o (Some o.moment) q) ≡ true
+    → EventRead (event_row checks n a host e o (Some o.moment) q)) [
       | Some r ↦ λ is some. absurd (some refl)
       | None ↦ λ is.
-          let t = event_taken n host e (decision_for a e.body o.fetched None) (answers checks n a e o) in
-          accepted_reads e read t n (not (is_held a e.body)) refl refl refl refl (decided_formed t is)
+          let t = event_row checks n a host e o (Some o.moment) None in
+          accepted_reads e read t n (is_held a e.body) refl refl refl refl (decided_formed t is)
     ]
 
 made_reads : (n : ℕ) (e : Seen) (f : Found) (timed : Bool) → IsEvent e → FitsFetched timed (fetched_as n e f) → HoldsOfWhole (SendsRev e.did) (fetched_as n e f)
@@ -92,9 +91,9 @@ asked_reads false n e f timed read fits = tt
 
 fetch_reads : (checks : Checks) (n : ℕ) (a : State) (host : List ℕ) (e : Seen) (o : Outside) → IsEvent e → is_taken (decided_event checks n a host e o) ≡ true → HoldsOfWhole (SendsRev e.did) (decided_event checks n a host e o).fetched
 fetch_reads checks n a host e o read =
-    elim (refusal_of checks a e o) as (λ q. is_taken (event_taken n host e (decision_for a e.body o.fetched q) (answers checks n a e o)) ≡ true
-    → HoldsOfWhole (SendsRev e.did) (event_taken n host e (decision_for a e.body o.fetched q) (answers checks n a e o)).fetched) [
-      | Some r ↦ λ is. asked_reads (loses (code_of r)) n e o.fetched true read (taken_fits (event_taken n host e (decision_for a e.body o.fetched (Some r)) (answers checks n a e o)) is).fetched
+    elim (refusal_of checks a e o) as (λ q. is_taken (event_row checks n a host e o (Some o.moment) q) ≡ true
+    → HoldsOfWhole (SendsRev e.did) (event_row checks n a host e o (Some o.moment) q).fetched) [
+      | Some r ↦ λ is. asked_reads (loses (code_of r)) n e o.fetched true read (taken_fits (event_row checks n a host e o (Some o.moment) (Some r)) is).fetched
       | None ↦ λ is. tt
     ]
 

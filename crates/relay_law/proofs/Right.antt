@@ -18,9 +18,8 @@ use Rattle.commit_check.specs.Order.{HoldsCommit}
 use Rattle.commit_check.specs.Step.{edits_of, lacks_prev, root_before, strays, ReplaysBy}
 use Rattle.commit_check.proofs.Formed.{edits_formed}
 use Rattle.commit_check.proofs.Steps.{sound_by}
-use Rattle.relay_core.specs.Decide.{Checks}
+use Rattle.relay_core.specs.Decide.{Checks, refusal_in}
 use Rattle.relay_core.specs.Opening.{OpensRight, IsHeadIn, IsHeadOf, shown_alone}
-use Rattle.relay_core.specs.Table.{refusal_in}
 use Rattle.relay_law.specs.Laws.{ChecksAreRight}
 use Rattle.relay_law.specs.Right.{LinksRight, expect_of, root_expected}
 use Rattle.relay_law.specs.Sound.{GoesFrom}

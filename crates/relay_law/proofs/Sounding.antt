@@ -25,11 +25,10 @@ use Rattle.account_state.specs.Folds.{account, last_rev}
 use Rattle.account_state.specs.State.{State}
 use Rattle.account_state.specs.declared.repo.Repo.{Repo}
 use Rattle.commit_check.specs.Step.{empty_root}
-use Rattle.relay_core.specs.Decide.{Checks, Outside, answers, as_result, condition, first_refusal, or_later, refusal_of, decision_for, decided_event}
-use Rattle.relay_core.specs.Rows.{event_taken, faulty_taken, effect_of, head_effect, kind_number, goes_out}
+use Rattle.relay_core.specs.Decide.{Checks, Outside, first_refusal, body_refusals, event_row, refusal_of, decided_event, when, is_held}
+use Rattle.relay_core.specs.Rows.{faulty_taken, effect_of, head_effect, kind_number}
 use Rattle.relay_core.specs.Runs.{Message, Turn, IsMadeBy, RunFrom, skipped_by, has_ended}
 use Rattle.relay_core.specs.Shown.{shown}
-use Rattle.relay_core.specs.Table.{TableLine, body_lines, refusal_in, when, is_held}
 use Rattle.relay_core.specs.declared.decision.Pass.{Pass}
 use Rattle.relay_core.specs.declared.limits.TheConstants.{LONGEST_MESSAGE}
 use Rattle.relay_law.specs.Chains.{Part, rests, nothing, effect_part, taken_part, part_in, part_of}
@@ -82,29 +81,21 @@ decided_formed t is =
 
 -- where nothing of the table applies, linking passed
 
-pub later_none : (o p : Option Refusal) → or_later o p ≡ None → p ≡ None
-later_none None p h = h
-later_none (Some r) p h = absurd cc
+pub later_none : (o : Option Refusal) (others : List (Option Refusal)) → first_refusal (o ∷ others) ≡ None → first_refusal others ≡ None
+later_none None others h = h
+later_none (Some r) others h = absurd cc
 
-earlier_none : (o p : Option Refusal) → or_later o p ≡ None → o ≡ None
-earlier_none None p h = refl
-earlier_none (Some r) p h = absurd cc
-
-linked_back : (o : Option Refusal) → refusal_in (as_result o) ≡ o
-linked_back None = refl
-linked_back (Some r) = refl
-
-abbrev NoneApplies : List TableLine → Type 0
+abbrev NoneApplies : List (Option Refusal) → Type 0
 NoneApplies [] = Unit {0}
-NoneApplies (line ∷ lines) = (condition line ≡ None) × NoneApplies lines
+NoneApplies (o ∷ others) = (o ≡ None) × NoneApplies others
 
-none_applies : (lines : List TableLine) → first_refusal lines ≡ None → NoneApplies lines
+none_applies : (refusals : List (Option Refusal)) → first_refusal refusals ≡ None → NoneApplies refusals
 none_applies [] h = tt
-none_applies (line ∷ lines) h = (earlier_none (condition line) (first_refusal lines) h, none_applies lines (later_none (condition line) (first_refusal lines) h))
+none_applies (None ∷ others) h = (refl, none_applies others h)
+none_applies (Some r ∷ others) h = absurd cc
 
-pub links_none : (checks : Checks) (a : State) (e : Seen) (c : CommitEvent) (o : Outside) → first_refusal (body_lines a (Body.Commit c) (answers checks 0 a e o)) ≡ None → checks.links e a.repo ≡ None
-links_none checks a e c o h =
-    sym (linked_back (checks.links e a.repo)) ∙ (none_applies (body_lines a (Body.Commit c) (answers checks 0 a e o)) h).1.1.1.1.1.1.0
+pub links_none : (checks : Checks) (a : State) (e : Seen) (c : CommitEvent) (o : Outside) → first_refusal (body_refusals checks a e (Body.Commit c) o (Some o.moment)) ≡ None → checks.links e a.repo ≡ None
+links_none checks a e c o h = (none_applies (body_refusals checks a e (Body.Commit c) o (Some o.moment)) h).1.1.1.1.1.1.0
 
 expected_is : (checks : Checks) (e : Seen) (c : CommitEvent) (repo : Repo) (p : List ℕ) → AreRight checks → e.body ≡ Body.Commit c → IsTracked repo p → checks.links e repo ≡ None → root_expected repo ≡ p
 expected_is checks e c (Repo.Good head) p right body h l = h
@@ -119,9 +110,9 @@ accepted_taken checks n a host e o body = record {
   did = e.did;
   kind = kind_number body;
   refusal = None;
-  seq = if goes_out None (is_held a body) then n + 1 else 0;
-  message = if goes_out None (is_held a body) then out_of e (n + 1) else [];
-  effect = effect_of body (answers checks n a e o);
+  seq = if is_held a body then 0 else n + 1;
+  message = if is_held a body then [] else out_of e (n + 1);
+  effect = effect_of body (Some (checks.opens e (last_rev a.repo)));
   fetched = Fetched.NotAsked;
   moment = Some o.moment;
 }
@@ -137,7 +128,7 @@ commit_follows checks right n a e c p head read body h fits opened linked =
     }
 
 accepted_follows : (checks : Checks) → AreRight checks → (n : ℕ) (a : State) (host : List ℕ) (e : Seen) (o : Outside) (p : List ℕ) → IsEvent e → IsTracked a.repo p
-    → (body : Body) → e.body ≡ body → first_refusal (body_lines a body (answers checks 0 a e o)) ≡ None → is_taken (accepted_taken checks n a host e o body) ≡ true → FollowsAt p (part_in (Row.Taken (accepted_taken checks n a host e o body)))
+    → (body : Body) → e.body ≡ body → first_refusal (body_refusals checks a e body o (Some o.moment)) ≡ None → is_taken (accepted_taken checks n a host e o body) ≡ true → FollowsAt p (part_in (Row.Taken (accepted_taken checks n a host e o body)))
 unfolding accepted_taken FollowsAt
 accepted_follows checks right n a host e o p read h (Body.Commit c) body q is =
     elim (checks.opens e (last_rev a.repo)) as (λ x. checks.opens e (last_rev a.repo) ≡ x → FollowsAt p (effect_part 1 (out_of e (n + 1)) (head_effect (Some x)))) [
@@ -156,10 +147,10 @@ event_part_follows : (checks : Checks) → AreRight checks → (n : ℕ) (a : St
     → is_taken (decided_event checks n a host e o) ≡ true → FollowsAt p (part_in (Row.Taken (decided_event checks n a host e o)))
 unfolding accepted_taken
 event_part_follows checks right n a host e o p read h =
-    elim (refusal_of checks a e o) as (λ q. refusal_of checks a e o ≡ q → is_taken (event_taken n host e (decision_for a e.body o.fetched q) (answers checks n a e o)) ≡ true
-    → FollowsAt p (part_in (Row.Taken (event_taken n host e (decision_for a e.body o.fetched q) (answers checks n a e o))))) [
-      | Some r ↦ λ q is. let t = event_taken n host e (decision_for a e.body o.fetched (Some r)) (answers checks n a e o) in quiet_part p t t.fetched refl
-      | None ↦ λ q is. accepted_follows checks right n a host e o p read h e.body refl (later_none (when (nat_lt LONGEST_MESSAGE (out_length e)) Refusal.TooLong) (first_refusal (body_lines a e.body (answers checks 0 a e o))) q) is
+    elim (refusal_of checks a e o) as (λ q. refusal_of checks a e o ≡ q → is_taken (event_row checks n a host e o (Some o.moment) q) ≡ true
+    → FollowsAt p (part_in (Row.Taken (event_row checks n a host e o (Some o.moment) q)))) [
+      | Some r ↦ λ q is. let t = event_row checks n a host e o (Some o.moment) (Some r) in quiet_part p t t.fetched refl
+      | None ↦ λ q is. accepted_follows checks right n a host e o p read h e.body refl (later_none (when (nat_lt LONGEST_MESSAGE (out_length e)) Refusal.TooLong) (body_refusals checks a e e.body o (Some o.moment)) q) is
     ] refl
 
 -- the row of a message follows at the newest root of every account

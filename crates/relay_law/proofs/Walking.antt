@@ -21,7 +21,8 @@ use Rattle.commit_check.proofs.Held.{car_linked}
 use Rattle.commit_check.proofs.Objects.{data_held}
 use Rattle.relay_row.specs.Rules.{is_cid, is_node, is_node_kind, is_rev}
 use Rattle.relay_row.proofs.Fits.{node_fits}
-use Rattle.relay_core.specs.Table.{TableLine, told, asked, Walk, waits, refuses, passes, walk, walk_past, when, refusal_in, is_ahead, link_line, repo_lines, body_lines, event_lines}
+use Rattle.relay_core.specs.Decide.{when, refusal_in, is_ahead}
+use Rattle.relay_core.specs.Table.{TableLine, told, asked, Walk, waits, refuses, passes, walk, walk_past, link_line, repo_lines, body_lines, event_lines}
 use Rattle.relay_core.specs.declared.answers.Answers.{Answers}
 use Rattle.relay_core.specs.declared.answers.Question.{Question}
 use Rattle.relay_core.specs.declared.limits.TheConstants.{LONGEST_MESSAGE}

@@ -12,7 +12,7 @@ use Rattle.relay_row.specs.declared.row.Row.{Row}
 use Rattle.account_state.specs.Folds.{account, last_rev}
 use Rattle.commit_check.specs.Order.{HoldsCommit}
 use Rattle.commit_check.specs.Step.{edits_of, is_gap, root_before, IsCoveredBy}
-use Rattle.relay_core.specs.Table.{is_ahead}
+use Rattle.relay_core.specs.Decide.{is_ahead}
 use Rattle.relay_core.specs.declared.limits.TheConstants.{LONGEST_MESSAGE}
 use Rattle.relay_law.specs.Right.{expect_of}
 

@@ -17,10 +17,10 @@ use Rattle.relay_row.specs.Rules.{names_did, names_host}
 use Rattle.at_cid.specs.declared.limits.TheConstants.{NUMBERS}
 use Rattle.relay_row.specs.declared.taken.Taken.{Taken}
 use Rattle.account_state.specs.Folds.{account}
+use Rattle.relay_core.specs.Answering.{row_of}
 use Rattle.relay_core.specs.Decide.{Checks, Outside, found, decided, passed, whole_under}
 use Rattle.relay_core.specs.Opening.{OpensRight}
 use Rattle.relay_core.specs.Operating.{operated_as}
-use Rattle.relay_core.specs.Rows.{row_of}
 use Rattle.relay_core.specs.Table.{did_of, next_of}
 use Rattle.relay_core.specs.declared.answers.Answers.{Answers}
 use Rattle.relay_core.specs.declared.decision.Decision.{Decision}

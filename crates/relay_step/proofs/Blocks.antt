@@ -17,9 +17,8 @@ use Rattle.account_state.specs.Folds.{account, last_rev}
 use Rattle.repo_sync.specs.Repository.{IsAnswer}
 use Rattle.repo_sync.specs.declared.fault.RepoFault.{RepoFault}
 use Rattle.repo_sync.specs.declared.found.Found.{Found as Checked}
-use Rattle.relay_core.specs.Decide.{Found, unfit, found}
+use Rattle.relay_core.specs.Decide.{Found, unfit, found, is_ahead}
 use Rattle.relay_core.specs.Shown.{found_in, or_zero}
-use Rattle.relay_core.specs.Table.{is_ahead}
 use Rattle.relay_core.specs.declared.limits.TheConstants.{FETCHED_UNSIGNED}
 use Rattle.relay_law.specs.Heads.{FetchesGive, FoundGives}
 use Rattle.relay_law.proofs.Blocks.{whole_block}

@@ -16,9 +16,10 @@ use Rattle.event_checks.specs.Lines as checked
 use Rattle.event_checks.specs.Table.{open_lines, sync_lines}
 use Rattle.account_state.specs.Folds.{last_rev}
 use Rattle.account_state.specs.State.{State}
+use Rattle.relay_core.specs.Decide.{when, is_ahead, refusal_in}
 use Rattle.relay_core.specs.Opening.{shown_alone}
 use Rattle.relay_core.specs.Shown.{shows_home, shows_verdict}
-use Rattle.relay_core.specs.Table.{TableLine, told, asked, Walk, waits, refuses, passes, walk, when, is_ahead, refusal_in, link_line, repo_lines, body_lines, event_lines}
+use Rattle.relay_core.specs.Table.{TableLine, told, asked, Walk, waits, refuses, passes, walk, link_line, repo_lines, body_lines, event_lines}
 use Rattle.relay_core.specs.declared.answers.Answers.{Answers}
 use Rattle.relay_core.specs.declared.answers.Question.{Question}
 use Rattle.relay_core.specs.declared.limits.TheConstants.{LONGEST_MESSAGE}

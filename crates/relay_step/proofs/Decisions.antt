@@ -15,16 +15,17 @@ use Rattle.event_checks.specs.Table.{car_in}
 use Rattle.relay_row.specs.Rules.{loses}
 use Rattle.relay_row.specs.declared.fetched.Fetched.{Fetched}
 use Rattle.account_state.specs.State.{State}
-use Rattle.relay_core.specs.Decide.{Checks, Outside, answers, decided_event, decision_for, refusal_of}
+use Rattle.relay_core.specs.Answering.{answers, decision_for, event_taken, fetched_of, own_effect}
+use Rattle.relay_core.specs.Decide.{Checks, Outside, decided_event, refusal_of, when, is_ahead, refusal_in, is_held}
 use Rattle.relay_core.specs.Opening.{IsHeadIn, IsHeadOf, OpensRight}
-use Rattle.relay_core.specs.Rows.{effect_of, event_taken, fetched_of, head_effect, own_effect}
-use Rattle.relay_core.specs.Table.{TableLine, told, asked, Walk, waits, refuses, passes, walk, walk_past, when, is_ahead, refusal_in, body_lines, event_lines, next_at, next_of, after_fetch, is_held}
+use Rattle.relay_core.specs.Rows.{effect_of, head_effect}
+use Rattle.relay_core.specs.Table.{TableLine, told, asked, Walk, waits, refuses, passes, walk, walk_past, body_lines, event_lines, next_at, next_of, after_fetch}
 use Rattle.relay_core.specs.declared.answers.Answers.{Answers}
 use Rattle.relay_core.specs.declared.answers.Question.{Question}
 use Rattle.relay_core.specs.declared.decision.Decision.{Decision}
 use Rattle.relay_core.specs.declared.decision.Next.{Next}
 use Rattle.relay_core.specs.declared.decision.Pass.{Pass}
-use Rattle.relay_core.proofs.Agreeing.{next_decided}
+use Rattle.relay_core.proofs.Agreeing.{decided_as, next_decided}
 use Rattle.relay_law.specs.Formed.{IsOpenedAs}
 use Rattle.at_event.specs.Bodies.{has_blocks}
 use Rattle.relay_step.proofs.Calls.{ended}
@@ -178,7 +179,7 @@ all_known (asked q (Some (Some r)) ∷ lines) h = absurd cc
 known_is : {A : Type 0} (f : A → Option Refusal) (o p : Option A) → option_map f o ≢ None → Within o p → o ≡ p
 known_is f o p some within = ⊎_elim (λ none. absurd (some (ap (option_map f) none))) (λ same. same) within
 
-effect_later : (a : State) (body : Body) (x z : Answers) → AreOf body x z → AllKnown (body_lines a body x) → effect_of body x ≡ effect_of body z
+effect_later : (a : State) (body : Body) (x z : Answers) → AreOf body x z → AllKnown (body_lines a body x) → effect_of body x.opened ≡ effect_of body z.opened
 unfolding AllKnown
 effect_later a (Body.Commit c) x z of known = ap head_effect (known_is refusal_in x.opened z.opened known.1.0 (of.opened refl))
 effect_later a (Body.Sync s) x z of known = ap head_effect (known_is refusal_in x.opened z.opened known.1.0 (of.opened refl))
@@ -251,7 +252,7 @@ module _ (checks : Checks) (last cursor : ℕ) (a : State) (host : List ℕ) (e 
       let fetched : fetched_of d.refusal x.fetched ≡ fetched_of d.refusal z.fetched = fetched_same d.refusal x.fetched z.fetched of.fetched end.fetch in
       let moment : x.moment ≡ z.moment = of.moment in
       let taken : event_taken last host e d z ≡ event_taken last host e d x = taken_same d effect fetched moment in
-      ap (λ (k : Decision). event_taken last host e k z) same ∙ taken
+      decided_as checks last a host e o ∙ ap (λ (k : Decision). event_taken last host e k z) same ∙ taken
     where
       taken_same : (k : Decision) → own_effect k.refusal e.body x ≡ own_effect k.refusal e.body (answers checks last a e o) → fetched_of k.refusal x.fetched ≡ fetched_of k.refusal (answers checks last a e o).fetched
           → x.moment ≡ (answers checks last a e o).moment → event_taken last host e k (answers checks last a e o) ≡ event_taken last host e k x

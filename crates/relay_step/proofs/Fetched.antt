@@ -14,8 +14,7 @@ use Rattle.at_cid.specs.Order.{key_cmp}
 use Rattle.event_checks.specs.Opening.{IsFound, block_in, object_in_block, read_object, root_in}
 use Rattle.relay_io.specs.Repositories.{IsOpened}
 use Rattle.relay_row.specs.Rules.{is_head}
-use Rattle.relay_core.specs.Decide.{Found, absent, unfit, found}
-use Rattle.relay_core.specs.Table.{is_ahead}
+use Rattle.relay_core.specs.Decide.{Found, absent, unfit, found, is_ahead}
 use Rattle.relay_core.specs.declared.limits.TheConstants.{FETCHED_AHEAD, FETCHED_UNSIGNED}
 use Rattle.relay_law.proofs.Heads.{found_head}
 use Rattle.repo_sync.specs.Checks.{IsRefused}

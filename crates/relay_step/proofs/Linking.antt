@@ -17,7 +17,8 @@ use Rattle.commit_check.specs.declared.expect.Expect.{Expect}
 use Rattle.commit_check.specs.declared.fault.CheckFault.{CheckFault}
 use Rattle.commit_check.specs.declared.opened.Opened.{Opened}
 use Rattle.commit_check.proofs.Held.{same_blocks, same_data}
-use Rattle.relay_core.specs.Decide.{Checks, as_result}
+use Rattle.relay_core.specs.Answering.{as_result}
+use Rattle.relay_core.specs.Decide.{Checks}
 use Rattle.relay_law.specs.Right.{LinksRight, expect_of}
 use Rattle.relay_step.specs.Questions.{IsLinkAnswer, IsReadOf, is_unlinked}
 use Rattle.relay_step.specs.declared.reading.Read.{Read}

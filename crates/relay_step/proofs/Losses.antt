@@ -19,11 +19,11 @@ use Rattle.relay_row.specs.declared.fetched.Fetched.{Fetched}
 use Rattle.at_cid.specs.declared.limits.TheConstants.{NUMBERS}
 use Rattle.relay_row.specs.declared.row.Row.{Row}
 use Rattle.account_state.specs.State.{State}
-use Rattle.relay_core.specs.Decide.{Found, absent, unfit, found, fetched_as, is_found}
+use Rattle.relay_core.specs.Answering.{event_taken, goes_out}
+use Rattle.relay_core.specs.Decide.{Found, absent, unfit, found, fetched_as, is_found, when}
 use Rattle.relay_core.specs.Entries.{account_in, cursor_in}
-use Rattle.relay_core.specs.Rows.{event_taken}
 use Rattle.relay_core.specs.Sending.{CanBeSent, IsSendable}
-use Rattle.relay_core.specs.Table.{TableLine, asked, told, moment_line, when, Walk, refuses, walk, body_lines, event_lines, next_at, next_of, after_fetch}
+use Rattle.relay_core.specs.Table.{TableLine, asked, told, moment_line, Walk, refuses, walk, body_lines, event_lines, next_at, next_of, after_fetch}
 use Rattle.relay_core.specs.declared.answers.Answers.{Answers}
 use Rattle.relay_core.specs.declared.answers.Question.{Question}
 use Rattle.relay_core.specs.declared.decision.Decision.{Decision}
@@ -37,7 +37,6 @@ use Rattle.relay_step.specs.Questions.{AreAsked, IsJudgedLate, IsRenewedFirst, I
 use Rattle.account_state.specs.Folds.{last_rev}
 use Rattle.account_state.specs.declared.repo.Repo.{Repo}
 use Rattle.relay_core.specs.Decide.{old_if}
-use Rattle.relay_core.specs.Rows.{goes_out}
 use Rattle.relay_core.specs.Shown.{or_zero}
 use Rattle.relay_core.specs.Table.{no_answers}
 use Rattle.relay_step.specs.Around.{Around, SameRepositories, around}

@@ -18,9 +18,10 @@ use Rattle.relay_row.specs.declared.row.Row.{Row}
 use Rattle.relay_row.specs.declared.taken.Taken.{Taken}
 use Rattle.account_state.specs.Folds.{account}
 use Rattle.account_state.specs.State.{State}
+use Rattle.relay_core.specs.Answering.{event_taken, fetched_of, goes_out, row_of}
 use Rattle.relay_core.specs.Decide.{Found, absent, unfit, found, fetched_as, old_if, passed}
 use Rattle.relay_core.specs.Entries.{account_in, cursor_in}
-use Rattle.relay_core.specs.Rows.{event_taken, faulty_taken, fetched_of, goes_out, row_of}
+use Rattle.relay_core.specs.Rows.{faulty_taken}
 use Rattle.relay_core.specs.Sending.{IsSendable}
 use Rattle.relay_core.specs.Shown.{or_zero}
 use Rattle.relay_core.specs.Table.{did_of, next_of, no_answers}

@@ -19,10 +19,10 @@ use Rattle.account_state.specs.Folds.{account, last_rev}
 use Rattle.account_state.specs.State.{State}
 use Rattle.host_state.proofs.Cursors.{hosts_tell}
 use Rattle.host_state.specs.Folds.{cursor_of}
-use Rattle.relay_core.specs.Decide.{Checks, Found, absent, unfit, found, Outside, answers, as_result, decided_event, fetched_as, old_if}
+use Rattle.relay_core.specs.Answering.{answers, as_result, event_taken, fetched_of, goes_out}
+use Rattle.relay_core.specs.Decide.{Checks, Found, absent, unfit, found, Outside, decided_event, fetched_as, old_if}
 use Rattle.relay_core.specs.Entries.{Holds, account_in, cursor_in}
 use Rattle.relay_core.specs.Opening.{OpensRight, shown_alone}
-use Rattle.relay_core.specs.Rows.{event_taken, fetched_of, goes_out}
 use Rattle.relay_core.specs.Sending.{IsSendable}
 use Rattle.relay_core.specs.Shown.{found_in, or_zero, shown}
 use Rattle.relay_core.specs.Table.{event_lines, next_of, walk}

@@ -6,8 +6,7 @@ use Rattle.at_authority.specs.Calls.{Call, fails, IsCall, AreCalls}
 use Rattle.at_authority.specs.Panels.{Panel}
 use Rattle.at_authority.proofs.Runs.{join}
 use Rattle.at_event.specs.Seen.{Seen}
-use Rattle.relay_core.specs.Decide.{Found}
-use Rattle.relay_core.specs.Table.{is_ahead}
+use Rattle.relay_core.specs.Decide.{Found, is_ahead}
 use Rattle.relay_core.specs.declared.answers.Answers.{Answers}
 use Rattle.relay_core.specs.declared.answers.Question.{Question}
 use Rattle.repo_sync.specs.declared.fault.RepoFault.{RepoFault}

@@ -7,10 +7,9 @@ use Rattle.relay_io.specs.Moments.{first_moment, later_moments}
 use Rattle.at_cid.specs.declared.limits.TheConstants.{NUMBERS}
 use Rattle.relay_row.specs.declared.row.Row.{Row}
 use Rattle.account_state.specs.Folds.{last_rev}
-use Rattle.relay_core.specs.Decide.{Found, is_found}
+use Rattle.relay_core.specs.Decide.{Found, is_found, is_ahead}
 use Rattle.relay_core.specs.Entries.{Holds, account_in}
 use Rattle.relay_core.specs.Operating.{operate_refusal, sync_refusal}
-use Rattle.relay_core.specs.Table.{is_ahead}
 use Rattle.relay_core.specs.declared.journal_state.Core.{Core}
 use Rattle.repo_sync.specs.Repository.{IsAnswer}
 use Rattle.repo_sync.specs.declared.found.Found.{Found as Checked}

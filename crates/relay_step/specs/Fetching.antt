@@ -10,9 +10,8 @@ use Rattle.relay_io.specs.Choices.{WhereElse}
 use Rattle.relay_row.specs.Rules.{loses}
 use Rattle.relay_row.specs.declared.row.Row.{Row}
 use Rattle.account_state.specs.Folds.{account, last_rev}
-use Rattle.relay_core.specs.Decide.{Found, absent, unfit, found}
+use Rattle.relay_core.specs.Decide.{Found, absent, unfit, found, is_ahead}
 use Rattle.relay_core.specs.Shown.{found_in, or_zero}
-use Rattle.relay_core.specs.Table.{is_ahead}
 use Rattle.relay_core.specs.declared.limits.TheConstants.{FETCHED_AHEAD, FETCHED_UNSIGNED}
 use Rattle.repo_sync.specs.Faults.{fault_number}
 use Rattle.repo_sync.specs.Repository.{IsAnswer}

@@ -19,9 +19,10 @@ use Rattle.commit_check.specs.Order.{HoldsCommit, StopsPast}
 use Rattle.commit_check.specs.Step.{is_gap, root_before}
 use Rattle.commit_check.specs.Opening.{IsOpened}
 use Rattle.repo_sync.specs.Sync.{IsSynced}
-use Rattle.relay_core.specs.Decide.{Checks, as_result}
+use Rattle.relay_core.specs.Answering.{as_result}
+use Rattle.relay_core.specs.Decide.{Checks, when, is_ahead}
 use Rattle.relay_core.specs.Entries.{account_in, cursor_in}
-use Rattle.relay_core.specs.Table.{next_of, no_answers, when, is_ahead}
+use Rattle.relay_core.specs.Table.{next_of, no_answers}
 use Rattle.relay_core.specs.Laws.{is_open}
 use Rattle.relay_core.specs.declared.answers.Answers.{Answers}
 use Rattle.relay_core.specs.declared.answers.Question.{Question}

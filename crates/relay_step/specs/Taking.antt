@@ -13,9 +13,10 @@ use Rattle.at_cid.specs.declared.limits.TheConstants.{NUMBERS}
 use Rattle.relay_row.specs.declared.taken.Taken.{Taken}
 use Rattle.account_state.specs.Folds.{last_rev}
 use Rattle.account_state.specs.State.{State}
+use Rattle.relay_core.specs.Answering.{event_taken, goes_out}
 use Rattle.relay_core.specs.Decide.{Found, absent, fetched_as, is_found, passed}
 use Rattle.relay_core.specs.Entries.{account_in, cursor_in}
-use Rattle.relay_core.specs.Rows.{event_taken, faulty_taken, goes_out}
+use Rattle.relay_core.specs.Rows.{faulty_taken}
 use Rattle.relay_core.specs.Sending.{IsSendable}
 use Rattle.relay_core.specs.Shown.{or_zero}
 use Rattle.relay_core.specs.declared.answers.Answers.{Answers}

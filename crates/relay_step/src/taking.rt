@@ -2,7 +2,7 @@
 
 ghost use Rattle.std.specs.Prelude.{◌≡◌, ◌+◌, ◌≤◌, ◌<◌, true, false, IfOk, IfErr, OnOk};
 ghost use Rattle.at_cid.specs.declared.limits.TheConstants.{NUMBERS};
-ghost use Rattle.relay_core.specs.Rows.{event_taken, goes_out};
+ghost use Rattle.relay_core.specs.Answering.{event_taken, goes_out};
 ghost use Rattle.relay_step.specs.Causes.{IsCause};
 ghost use Rattle.relay_step.specs.declared.decided.Decided.{Decided as Outcome};
 

@@ -17,9 +17,10 @@ use Rattle.relay_row.specs.declared.fetched.Fetched.{Fetched}
 use Rattle.relay_row.specs.declared.row.Row.{Row}
 use Rattle.relay_row.specs.declared.taken.Taken.{Taken}
 use Rattle.account_state.specs.Folds.{account}
-use Rattle.relay_core.specs.Decide.{Checks, answers, decided_event, decision_for, refusal_of}
+use Rattle.relay_core.specs.Answering.{answers, decision_for, event_taken}
+use Rattle.relay_core.specs.Decide.{Checks, decided_event, refusal_of}
 use Rattle.relay_core.specs.Report.{is_row_refused, taken_line}
-use Rattle.relay_core.specs.Rows.{event_taken, faulty_taken}
+use Rattle.relay_core.specs.Rows.{faulty_taken}
 use Rattle.relay_core.specs.Runs.{IsMadeBy}
 use Rattle.relay_core.specs.Shown.{shown}
 use Rattle.relay_core.specs.Table.{did_of}

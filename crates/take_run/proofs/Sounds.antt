@@ -20,12 +20,11 @@ use Rattle.relay_row.specs.declared.taken.Taken.{Taken}
 use Rattle.relay_row.proofs.Journals.{fronts}
 use Rattle.account_state.specs.Folds.{account}
 use Rattle.account_state.specs.State.{State}
-use Rattle.relay_core.specs.Decide.{Checks, Found, answers, decided, decided_event, decision_for, old_if, refusal_of}
+use Rattle.relay_core.specs.Answering.{answers, decision_for, event_taken, goes_out}
+use Rattle.relay_core.specs.Decide.{Checks, Found, decided, decided_event, old_if, refusal_of, is_held}
 use Rattle.relay_core.specs.Opening.{OpensRight}
-use Rattle.relay_core.specs.Rows.{event_taken, goes_out}
 use Rattle.relay_core.specs.Runs.{IsMadeBy, Message, Run, skipped_by}
 use Rattle.relay_core.specs.Shown.{or_zero, shown, shows_home, shows_verdict}
-use Rattle.relay_core.specs.Table.{is_held}
 use Rattle.relay_core.specs.declared.answers.Answers.{Answers}
 use Rattle.relay_core.specs.declared.decision.Pass.{Pass}
 use Rattle.relay_law.specs.Calls.{as_read}

@@ -11,9 +11,10 @@ use Rattle.relay_row.specs.Folds.{last_seq}
 use Rattle.relay_row.specs.declared.fetched.Fetched.{Fetched}
 use Rattle.relay_row.specs.declared.row.Row.{Row}
 use Rattle.relay_row.specs.declared.taken.Taken.{Taken}
-use Rattle.relay_core.specs.Decide.{Checks, Outside, absent, answers, decided, decided_event}
+use Rattle.relay_core.specs.Answering.{answers, fetched_of}
+use Rattle.relay_core.specs.Decide.{Checks, Outside, absent, decided, decided_event}
 use Rattle.relay_core.specs.Opening.{OpensRight}
-use Rattle.relay_core.specs.Rows.{faulty_taken, fetched_of}
+use Rattle.relay_core.specs.Rows.{faulty_taken}
 use Rattle.relay_core.specs.Runs.{Message, Turn, has_ended, skipped_by, IsMadeBy}
 use Rattle.relay_core.specs.Shown.{shown, shows_home, shows_verdict, found_in, or_zero}
 use Rattle.relay_core.specs.Table.{did_of}
