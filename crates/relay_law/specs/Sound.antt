@@ -76,4 +76,5 @@ Replays s (k ∷ ks) = (c : CommitEvent) × IsCommit k.0 c
 -- each chain replays from every map whose tree has the root of its base
 abbrev pub AllReplay : List Chain → Type 0
 AllReplay others =
-    AllByRecursion (λ chain. (s : List Item) → IsMap s → root s ≡ chain.0 → Replays s chain.1) others
+    AllByRecursion (λ chain. (s : List Item) → IsMap s → root s ≡ chain.0
+    → Replays s chain.1) others
