@@ -116,4 +116,4 @@ pub record IsReadEvent (event : ℕ × List ℕ) : Type 0 where
   pub numbered : seen.seq ≡ event.0
 
 abbrev pub AreReadEvents : List (ℕ × List ℕ) → Type 0
-AreReadEvents others = AllByRecursion IsReadEvent others
+AreReadEvents events = AllByRecursion IsReadEvent events

@@ -47,7 +47,7 @@ IsLinked former [] = Unit {0}
 IsLinked former (c ∷ cs) = Follows former c.0 c.1 × IsLinked c.1 cs
 
 abbrev pub AreLinked : List Chain → Type 0
-AreLinked others = AllByRecursion (λ chain. IsLinked chain.0 chain.1) others
+AreLinked chains = AllByRecursion (λ chain. IsLinked chain.0 chain.1) chains
 
 -- In a sound journal, each commit of each chain follows from what stands before it.
 abbrev pub IsSound : List Row → Type 0
@@ -75,6 +75,6 @@ Replays s (k ∷ ks) = (c : CommitEvent) × IsCommit k.0 c
 
 -- each chain replays from every map whose tree has the root of its base
 abbrev pub AllReplay : List Chain → Type 0
-AllReplay others =
+AllReplay chains =
     AllByRecursion (λ chain. (s : List Item) → IsMap s → root s ≡ chain.0
-    → Replays s chain.1) others
+    → Replays s chain.1) chains
