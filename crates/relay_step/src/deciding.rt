@@ -3,13 +3,12 @@
 ghost use Rattle.std.specs.Prelude.{◌≡◌, ◌≢◌, ◌≤◌, false, Ok, Err, IsTrue, IfOk, IfErr, OnErr};
 ghost use Rattle.at_cid.specs.Counts.{Rose};
 ghost use Rattle.at_syntax.specs.Host.{is_host};
-ghost use Rattle.at_event.specs.Formed.{IsFormedFrame};
 ghost use Rattle.at_event.specs.Frames.{frame_of};
 ghost use Rattle.at_event.specs.declared.frame.Frame.{Frame as AFrame};
 ghost use Rattle.relay_step.specs.Around.{SameAsked, around_of};
 ghost use Rattle.relay_step.specs.Asked.{AskedInVain};
 ghost use Rattle.relay_step.specs.Causes.{AskedInVainOf, CameToNothing, IsCause, OneTaken, SpendsNone};
-ghost use Rattle.relay_step.specs.Messages.{IsAsked, IsAskedOf, IsDecided, IsFrameCause, IsSkippedAs, KeepsJournal, told_as};
+ghost use Rattle.relay_step.specs.Messages.{IsAsked, IsDecided, IsFrameCause, IsSkippedAs, KeepsJournal, told_as};
 ghost use Rattle.relay_step.specs.Steps.{rows_decided, step_of};
 ghost use Rattle.relay_step.specs.Taking.{EventDecided, OtherDecided, is_event};
 
@@ -102,55 +101,6 @@ fn decide_other<C: Clock>(
     }
 }
 
-/// Decides a message that reads.
-fn decide_frame<P: Judges, R: Repos, C: Clock>(
-    alloc: Global,
-    core: &Core,
-    host: &str,
-    frame: Frame,
-    asked: &mut Asked<P, R, C>,
-) -> Result<Decided, StepFault>
-    requires host { IsTrue (is_host host.now) }
-    requires frame { IsFormedFrame frame }
-    ensures told { IfOk result (λ told. IsDecided core.now host.now (Ok frame) (told_as told)) }
-    ensures passed { IfOk result (IsSkippedAs (Ok frame)) }
-    ensures asked { let old = around_of P.panel C.moments R.repository asked.old in
-        let new = around_of P.panel C.moments R.repository asked.new in
-        IfOk result (λ told.
-        IsAskedOf C.tells R.tells core.now old host.now (Ok frame) (told_as told) new) }
-    ensures formed { IfOk result (λ told. KeepsJournal core.now (rows_decided (told_as told))) }
-    ensures in_vain { let old = around_of P.panel C.moments R.repository asked.old in
-        let new = around_of P.panel C.moments R.repository asked.new in
-        OnErr result (CameToNothing C.tells R.tells
-        (AskedInVainOf old.panel (Ok frame) new.panel) old new) }
-    ensures caused { let old = around_of P.panel C.moments R.repository asked.old in
-        let new = around_of P.panel C.moments R.repository asked.new in
-        IfErr result (IsFrameCause C.tells R.tells core.now old host.now (Ok frame) new
-        (Rose (R.faults asked.old.repos.now) (R.faults asked.new.repos.now))
-        (Rose (C.faults asked.old.clock.now) (C.faults asked.new.clock.now))) }
-    ensures clock_counts { C.faults asked.old.clock.now ≤ C.faults asked.new.clock.now }
-    ensures repos_count { R.faults asked.old.repos.now ≤ R.faults asked.new.repos.now }
-    ensures unspent { result ≢ Err StepFault.Authority
-        → SpendsNone (P.panel asked.old.judges.now) (P.panel asked.new.judges.now) }
-    ensures clock_steady { result ≢ Err StepFault.Clock
-        → C.faults asked.new.clock.now ≡ C.faults asked.old.clock.now }
-    ensures repos_steady { result ≢ Err StepFault.Repos
-        → R.faults asked.new.repos.now ≡ R.faults asked.old.repos.now }
-    ensures same { SameAsked asked.old asked.new }
-{
-    made_rows_are_formed();
-    ghost_text(host);
-    match frame {
-        Frame::Event(event) => {
-            event.ghost_event();
-            decide_event(alloc, core, host, event, asked)
-        }
-        other @ (Frame::Faulty(_) | Frame::Info | Frame::Error | Frame::Unknown) => {
-            decide_other(alloc, core, host, other, asked.clock)
-        }
-    }
-}
-
 /// Decides a message of a host that hasn't ended: what has to be known of it is asked, each question once, and it makes a
 /// row, or none. A message that doesn't read ends its host.
 pub fn decide_message<P: Judges, R: Repos, C: Clock>(
@@ -194,10 +144,21 @@ pub fn decide_message<P: Judges, R: Repos, C: Clock>(
         → R.faults asked.new.repos.now ≡ R.faults asked.old.repos.now }
     ensures same { SameAsked asked.old asked.new }
 {
-    match read_frame(alloc, message) {
-        Ok(frame) => decide_frame(alloc, core, host, frame, asked),
-        Err(FrameFault::BadFrame) => Ok(Decided::Skipped(Skipped::BadFrame)),
-        Err(FrameFault::NoSeq) => Ok(Decided::Skipped(Skipped::NoSeq)),
-        Err(FrameFault::Memory) => Err(StepFault::Memory),
+    let frame = match read_frame(alloc, message) {
+        Ok(frame) => frame,
+        Err(FrameFault::BadFrame) => return Ok(Decided::Skipped(Skipped::BadFrame)),
+        Err(FrameFault::NoSeq) => return Ok(Decided::Skipped(Skipped::NoSeq)),
+        Err(FrameFault::Memory) => return Err(StepFault::Memory),
+    };
+    made_rows_are_formed();
+    ghost_text(host);
+    match frame {
+        Frame::Event(event) => {
+            event.ghost_event();
+            decide_event(alloc, core, host, event, asked)
+        }
+        other @ (Frame::Faulty(_) | Frame::Info | Frame::Error | Frame::Unknown) => {
+            decide_other(alloc, core, host, other, asked.clock)
+        }
     }
 }

@@ -4,7 +4,6 @@ ghost use Rattle.std.specs.Prelude.{◌≡◌, ◌≢◌, true, Err, IsTrue, IfO
 ghost use Rattle.at_syntax.specs.Did.{is_did, method_of};
 ghost use Rattle.at_authority.specs.Calls.{IsCall, AreCalls, fails};
 ghost use Rattle.at_authority.specs.Panels.{IsSpent};
-ghost use Rattle.at_event.specs.declared.event.Body.{Body as Says};
 ghost use Rattle.account_state.specs.Folds.{last_rev};
 ghost use Rattle.relay_law.specs.Formed.{IsOpenedAs};
 ghost use Rattle.relay_law.specs.Right.{expect_of};
@@ -18,7 +17,7 @@ use crate::fault::StepFault;
 use crate::outside::ask_verdict;
 use account_state::Repo;
 use at_authority::Judges;
-use at_event::{Body, CommitEvent, Event, Head, Refusal, SyncEvent};
+use at_event::{Body, Event, Head, Refusal};
 use at_syntax::Tid;
 use commit_check::{CheckFault, Expect, Opened, link, open_commit};
 use repo_sync::{Found, OpenFault, check_sync};
@@ -35,38 +34,6 @@ pub(crate) enum Read {
     Sync(Found),
 }
 
-fn open_commit_event(
-    alloc: Global,
-    commit: &CommitEvent,
-    last: Option<Tid>,
-) -> Result<(Result<Head, Refusal>, Read), StepFault>
-    ensures answer { IfOk result (λ x. IsOpenedAs (Says.Commit commit.now) last x.0) }
-    ensures read { IfOk result (λ x. IsReadFor (Says.Commit commit.now) (Some x.0) x.1) }
-    ensures memory { IfErr result (λ fault. fault ≡ Fault.Memory) }
-{
-    match open_commit(alloc, commit, last) {
-        Ok(opened) => Ok((Ok(opened.head), Read::Commit(opened))),
-        Err(CheckFault::Refused(refusal)) => Ok((Err(refusal), Read::Nothing)),
-        Err(CheckFault::Memory) => Err(StepFault::Memory),
-    }
-}
-
-fn open_sync_event(
-    alloc: Global,
-    sync: &SyncEvent,
-    last: Option<Tid>,
-) -> Result<(Result<Head, Refusal>, Read), StepFault>
-    ensures answer { IfOk result (λ x. IsOpenedAs (Says.Sync sync.now) last x.0) }
-    ensures read { IfOk result (λ x. IsReadFor (Says.Sync sync.now) (Some x.0) x.1) }
-    ensures memory { IfErr result (λ fault. fault ≡ Fault.Memory) }
-{
-    match check_sync(alloc, sync, last) {
-        Ok(found) => Ok((Ok(found.head), Read::Sync(found))),
-        Err(OpenFault::Refused(refusal)) => Ok((Err(refusal), Read::Nothing)),
-        Err(OpenFault::Memory) => Err(StepFault::Memory),
-    }
-}
-
 /// Opens an event that has blocks, beside the last revision of its account.
 pub(crate) fn open(
     alloc: Global,
@@ -79,8 +46,16 @@ pub(crate) fn open(
     ensures memory { IfErr result (λ fault. fault ≡ Fault.Memory) }
 {
     match body {
-        Body::Commit(commit) => open_commit_event(alloc, commit.get(), last),
-        Body::Sync(sync) => open_sync_event(alloc, sync, last),
+        Body::Commit(commit) => match open_commit(alloc, commit.get(), last) {
+            Ok(opened) => Ok((Ok(opened.head), Read::Commit(opened))),
+            Err(CheckFault::Refused(refusal)) => Ok((Err(refusal), Read::Nothing)),
+            Err(CheckFault::Memory) => Err(StepFault::Memory),
+        },
+        Body::Sync(sync) => match check_sync(alloc, sync, last) {
+            Ok(found) => Ok((Ok(found.head), Read::Sync(found))),
+            Err(OpenFault::Refused(refusal)) => Ok((Err(refusal), Read::Nothing)),
+            Err(OpenFault::Memory) => Err(StepFault::Memory),
+        },
         Body::Identity | Body::Account(_) => unreachable!(),
     }
 }
