@@ -20,12 +20,12 @@ use Rattle.relay_row.proofs.Journals.{cursors_joined, fronts, grew, lasts_joined
 use Rattle.account_state.specs.Folds.{account, account_after, fresh, last_rev, moved}
 use Rattle.account_state.specs.State.{State}
 use Rattle.account_state.proofs.Joined.{joined}
-use Rattle.relay_core.specs.Answering.{answers, decision_for, event_taken}
-use Rattle.relay_core.specs.Decide.{Checks, Found, decided_event, old_if, refusal_of, is_held}
+use Rattle.relay_core.specs.Decide.{Checks, decided_event, event_row, old_if, refusal_of, is_held}
 use Rattle.relay_core.specs.Opening.{OpensRight}
 use Rattle.relay_core.specs.Runs.{Message, Turn, IsMadeBy, RunFrom}
 use Rattle.relay_core.specs.Shown.{says_yes, shown, shows_home, shows_verdict}
 use Rattle.relay_core.specs.declared.decision.Pass.{Pass}
+use Rattle.relay_core.proofs.Agreeing.{event_told}
 use Rattle.relay_law.specs.Right.{LinksRight}
 use Rattle.relay_law.proofs.Sounding.{taken_is}
 use Rattle.account_state.proofs.Dids.{names_same}
@@ -131,10 +131,6 @@ both_tests one other (row ∷ rows) h k =
     let b = and_parts (other row) (list_all other rows) k in
     and_from (one row && other row) _ (and_from (one row) (other row) a.0 b.0) (both_tests one other rows a.1 b.1)
 
-decision_refusal : (a : State) (body : Body) (f : Found) (q : Option Refusal) → (decision_for a body f q).refusal ≡ q
-decision_refusal a body f None = refl
-decision_refusal a body f (Some r) = refl
-
 not_held : (b : State) (body : Body) → b.down ≡ false → is_held b body ≡ false
 not_held b (Body.Commit c) up = refl
 not_held b (Body.Sync s) up = refl
@@ -155,16 +151,21 @@ accepts : (checks : Checks) (a after b : State) (last : ℕ) (host : List ℕ) (
 accepts checks a after b last host e t c trails trusted is =
     let o = shown t in
     let q = refusal_of checks b e o in
-    let x = answers checks last b e o in
-    let same : q ≡ t.refusal = sym (decision_refusal b e.body o.fetched q) ∙ ap (λ (s : Taken). s.refusal) is in
+    let same : q ≡ t.refusal = sym (event_told checks last b host e o (Some o.moment) q).refusal ∙ ap (λ (s : Taken). s.refusal) is in
     let trust = and_parts (says_yes (Row.Taken t)) (is_timely (Row.Taken t)) trusted in
     let yes = and_parts (shows_home t.refusal) (shows_verdict t.refusal) trust.0 in
     let none : q ≡ None = passes_again checks b e o yes.0 yes.1 (c.shows b trails) (λ no. not_ahead t.refusal trust.1 (sym same ∙ no)) in
     let held : is_held b e.body ≡ false = not_held b e.body trails.up in
-    let T : Option Refusal → Bool → Taken = λ p h. event_taken last host e (record { refusal = p; held = h; gives = not h }) x in
-    let taken : T None false ≡ t = ap (λ (h : Bool). T None h) (sym held) ∙ ap (λ (p : Option Refusal). event_taken last host e (decision_for b e.body o.fetched p) x) (sym none) ∙ is in
+    let taken : event_row checks last b host e o (Some o.moment) None ≡ t = ap (λ (p : Option Refusal). event_row checks last b host e o (Some o.moment) p) (sym none) ∙ is in
     let P : Taken → Type 0 = λ s. IsAccepted after b last e s in
-    subst P taken (record { accepted = refl; numbered = refl; did_is = refl; seq_is = refl; message = refl; trails = c.moves b last o trails })
+    subst P taken (record {
+      accepted = refl;
+      numbered = refl;
+      did_is = refl;
+      seq_is = ap (λ (h : Bool). cond h 0 (last + 1)) held;
+      message = ap (λ (h : Bool). cond h [] (out_of e (last + 1))) held;
+      trails = c.moves b trails;
+    })
 
 -- ---- the induction
 

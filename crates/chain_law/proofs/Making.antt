@@ -21,14 +21,15 @@ use Rattle.relay_row.specs.declared.fetched.Whole.{Whole}
 use Rattle.relay_row.specs.declared.row.Row.{Row}
 use Rattle.relay_row.specs.declared.taken.Taken.{Taken}
 use Rattle.account_state.specs.Folds.{account, last_rev}
+use Rattle.account_state.specs.State.{State}
 use Rattle.repo_sync.specs.declared.fault.RepoFault.{RepoFault}
 use Rattle.repo_sync.specs.declared.found.Found.{Found as Checked}
 use Rattle.repo_sync.specs.Repository.{IsAnswer}
-use Rattle.relay_core.specs.Answering.{decision_for, fetched_of}
-use Rattle.relay_core.specs.Decide.{Checks, Found, absent, unfit, found, whole_under, decided_event, fetched_as, refusal_of}
+use Rattle.relay_core.specs.Decide.{Checks, Found, Outside, absent, unfit, found, whole_under, decided_event, event_row, fetched_as, refusal_of}
 use Rattle.relay_core.specs.Operating.{sync_refusal}
 use Rattle.relay_core.specs.Runs.{IsMadeBy}
 use Rattle.relay_core.specs.Shown.{found_in, or_zero, shown}
+use Rattle.relay_core.proofs.Agreeing.{event_told}
 use Rattle.relay_step.specs.Around.{Around, AllAsked, SameRepositories}
 use Rattle.relay_step.specs.Fetching.{AreBytes, IsFetched, IsFetchedAs, IsFetchedFrom, IsFetchedTold, found_and_asked, told_where}
 use Rattle.relay_io.specs.Choices.{WhereElse}
@@ -100,9 +101,9 @@ lost_so : (b : Bool) (f : Fetched) (whole : Whole) → (if b then f else Fetched
 lost_so true f whole same = cc
 lost_so false f whole same = absurd cc
 
-asked_so : (q : Option Refusal) (f : Fetched) (whole : Whole) → fetched_of q (Some f) ≡ Fetched.Whole whole → Loses q
-asked_so None f whole same = absurd cc
-asked_so (Some r) f whole same = record { refusal = r; is = refl; lost = lost_so (loses (code_of r)) f whole same }
+asked_so : (checks : Checks) (n : ℕ) (a : State) (host : List ℕ) (e : Seen) (o : Outside) (q : Option Refusal) (whole : Whole) → (event_row checks n a host e o (Some o.moment) q).fetched ≡ Fetched.Whole whole → Loses q
+asked_so checks n a host e o None whole same = absurd cc
+asked_so checks n a host e o (Some r) whole same = record { refusal = r; is = refl; lost = lost_so (loses (code_of r)) (fetched_as n e o.fetched) whole same }
 
 -- ---- the row of one message
 
@@ -117,14 +118,14 @@ event_given : (checks : Checks) (J : List Row) (host : List ℕ) (e : Seen) (t :
     → decided_event checks (last_seq J) (account e.did J) host e (shown t) ≡ t → (message : List ℕ) → IsBytes message → frame_of message ≡ Ok (Frame.Event e) → IsOfEvent checks J t
 event_given checks J host e t tells repository calls are fetched is message spelled reads =
     let a = account e.did J in
-    let d = decision_for a e.body (found_in t.fetched) (refusal_of checks a e (shown t)) in
-    let f = fetched_as (last_seq J) e (found_in t.fetched) in
-    let refusals : d.refusal ≡ t.refusal = ap (λ (u : Taken). u.refusal) is in
-    let fetches : fetched_of d.refusal (Some f) ≡ t.fetched = ap (λ (u : Taken). u.fetched) is in
-    let dids : t.did ≡ e.did = sym (ap (λ (u : Taken). u.did) is) in
+    let q = refusal_of checks a e (shown t) in
+    let told = event_told checks (last_seq J) a host e (shown t) (Some (or_zero t.moment)) q in
+    let refusals : q ≡ t.refusal = sym told.refusal ∙ ap (λ (u : Taken). u.refusal) is in
+    let fetches = ap (λ (u : Taken). u.fetched) is in
+    let dids : t.did ≡ e.did = sym (ap (λ (u : Taken). u.did) is) ∙ told.did in
     let from : (whole : Whole) → t.fetched ≡ Fetched.Whole whole → IsFetchedAs (told_where tells (repository t.did)) t.did (last_rev (account t.did J).repo) (or_zero t.moment) (found_in t.fetched) calls =
     λ whole whole_is.
-    let so = asked_so d.refusal f whole (fetches ∙ whole_is) in
+    let so = asked_so checks (last_seq J) a host e (shown t) q whole (fetches ∙ whole_is) in
     where_held (loses (code_of so.refusal)) _ _ so.lost (subst (λ (q : Option Refusal). IsFetched tells repository J t.did q (or_zero t.moment) (found_in t.fetched) calls) (sym refusals ∙ so.is) fetched) in
     record {
       host = host;

@@ -135,7 +135,7 @@ module _ (checks : Checks) (opens : OpensRight checks) (did : List ℕ) (head : 
       let one : (last : Option ℕ) (h : Head) → checks.opens own_sync last ≡ Ok h → h ≡ head = λ last h told. one_head (car_of (commit_car head block)) head.rev h head (opens.head own_sync last h told) (car_open did head block is).top in
       record {
         shows = λ b t. record { fits = fits; active = shown_active a b t active up; up = t.up; opened = opened b t };
-        moves = λ b last o t.
+        moves = λ b t.
             let P : Effect → Type 0 = λ x. Trails after (effected b x) in
             subst P (sym (opens_to checks own_sync (last_rev b.repo) head (opened b t) (one (last_rev b.repo)))) (record {
               active = t.active ∙ ap (λ (x : Bool). x && not a.down) (sym same_active) ∙ ap (λ (x : Bool). after.active && not x) (sym same_down);
@@ -162,11 +162,11 @@ module _ (checks : Checks) (did time : List ℕ) (n : ℕ) (named : is_did did �
   pub down_carries : Carries checks a (record a { down = true }) (account_seen did false (Some (codes "takendown")) time n)
   down_carries = record {
     shows = λ b t. account_fits did time n (did_short did named) brief false (Some (codes "takendown")) takendown;
-    moves = λ b last o t. command_trails a b false true (Some (codes "takendown")) t (and_none a.active);
+    moves = λ b t. command_trails a b false true (Some (codes "takendown")) t (and_none a.active);
   }
 
   pub up_carries : IsStatus a.status → Carries checks a (record a { down = false }) (account_seen did a.active a.status time n)
   up_carries is = record {
     shows = λ b t. account_fits did time n (did_short did named) brief a.active a.status is;
-    moves = λ b last o t. command_trails a b a.active false a.status t (and_one a.active);
+    moves = λ b t. command_trails a b a.active false a.status t (and_one a.active);
   }

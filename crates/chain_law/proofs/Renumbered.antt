@@ -21,15 +21,13 @@ use Rattle.account_state.specs.declared.repo.Repo.{Repo}
 use Rattle.commit_check.specs.Order.{HoldsCommit}
 use Rattle.commit_check.specs.Step.{is_gap, root_before}
 use Rattle.commit_check.proofs.Held.{shown_held}
-use Rattle.relay_core.specs.Answering.{answers}
-use Rattle.relay_core.specs.Decide.{Checks, Outside, refusal_in, is_held}
+use Rattle.relay_core.specs.Decide.{Checks, refusal_in, is_held}
 use Rattle.relay_core.specs.Opening.{OpensRight, IsHeadIn, IsHeadOf, shown_alone}
 use Rattle.relay_core.specs.Rows.{effect_of, head_effect}
 use Rattle.relay_core.specs.declared.limits.TheConstants.{LONGEST_MESSAGE}
 use Rattle.relay_law.specs.Right.{LinksRight, expect_of}
 use Rattle.relay_law.proofs.Answered.{same_head, told_ok, linking_decided}
 use Rattle.relay_law.proofs.Right.{checks_right}
-use Rattle.chain_law.specs.Given.{answers_at}
 use Rattle.chain_law.specs.Again.{Trails}
 use Rattle.chain_law.proofs.Trailing.{RepoShows, Shows, Carries, is_long, good_trails}
 
@@ -119,20 +117,20 @@ module _ (checks : Checks) (opens : OpensRight checks) (links : LinksRight check
         let R : Head → Type 0 = λ x. Trails (record a { repo = Repo.Good g.0 }) (record b { repo = Repo.Good x }) in
         subst P (sym g.1) (subst Q (sym h.1) (subst R same (good_trails a b g.0 t)))
 
-    body_moved : (body : Body) → e.body ≡ body → Shows checks a e body → is_held a body ≡ false → (first last : ℕ) (o p : Outside) (m : Option ℕ)
-        → Trails (effected a (effect_of body (answers_at checks first a e o m))) (effected b (effect_of body (answers checks last b again p)))
-    body_moved (Body.Commit c) body s held first last o p m =
+    body_moved : (body : Body) → e.body ≡ body → Shows checks a e body → is_held a body ≡ false
+        → Trails (effected a (effect_of body (Some (checks.opens e (last_rev a.repo))))) (effected b (effect_of body (Some (checks.opens again (last_rev b.repo)))))
+    body_moved (Body.Commit c) body s held =
         let P : Body → Type 0 = λ x. (g h : Head) → IsHeadOf x g → IsHeadOf x h → g ≡ h in
         heads_moved (subst P (sym body) (λ g h. one_head (car_in c) c.rev g h)) s.0.opened
-    body_moved (Body.Sync s) body shows held first last o p m =
+    body_moved (Body.Sync s) body shows held =
         let P : Body → Type 0 = λ x. (g h : Head) → IsHeadOf x g → IsHeadOf x h → g ≡ h in
         heads_moved (subst P (sym body) (λ g h. one_head (car_of s.blocks) s.rev g h)) shows.opened
-    body_moved Body.Identity body s held first last o p m = t
-    body_moved (Body.Account c) body s held first last o p m = account_trails a b c.active c.status t held
+    body_moved Body.Identity body s held = t
+    body_moved (Body.Account c) body s held = account_trails a b c.active c.status t held
 
   -- an event that was accepted is carried on
-  pub carried_on : (a : State) (o : Outside) (m : Option ℕ) (first : ℕ) → Shows checks a e e.body → is_held a e.body ≡ false → Carries checks a (effected a (effect_of e.body (answers_at checks first a e o m))) again
-  carried_on a o m first s held = record {
+  pub carried_on : (a : State) → Shows checks a e e.body → is_held a e.body ≡ false → Carries checks a (effected a (effect_of e.body (Some (checks.opens e (last_rev a.repo))))) again
+  carried_on a s held = record {
     shows = λ b t. body_again a b t e.body refl s;
-    moves = λ b last p t. body_moved a b t e.body refl s held first last o p m;
+    moves = λ b t. body_moved a b t e.body refl s held;
   }

@@ -34,8 +34,7 @@ use Rattle.relay_row.proofs.Fits.{FitsFetched, message_fits, rev_fits, taken_fit
 use Rattle.account_state.specs.Folds.{account, effected, last_rev, lost, moved, refetched}
 use Rattle.account_state.specs.State.{State}
 use Rattle.account_state.specs.declared.repo.Repo.{Repo}
-use Rattle.relay_core.specs.Answering.{decision_for, event_taken}
-use Rattle.relay_core.specs.Decide.{Checks, Outside, Found, absent, unfit, found, commit_car, fetched_as, sync_message, whole_under, is_held, when, refusal_at, event_taken_at}
+use Rattle.relay_core.specs.Decide.{Checks, Outside, Found, absent, unfit, found, commit_car, fetched_as, sync_message, whole_under, is_held, when, refusal_at, event_row, event_taken_at}
 use Rattle.relay_core.specs.Opening.{OpensRight}
 use Rattle.relay_core.specs.Operating.{operated_message}
 use Rattle.relay_core.specs.Rows.{effect_of}
@@ -43,7 +42,7 @@ use Rattle.relay_law.specs.Right.{LinksRight}
 use Rattle.relay_law.proofs.Heads.{accounts_are_formed}
 use Rattle.relay_law.proofs.Own.{did_named, number_below, status_is, sync_blocks, takendown}
 use Rattle.chain_law.specs.Chained.{is_raised, raises, fetch_raises}
-use Rattle.chain_law.specs.Given.{answers_at, IsOfRepository, IsFoundOfRepository, IsOfEvent, IsOfFaulty, IsOfSync, IsOfTakedown, IsGiven}
+use Rattle.chain_law.specs.Given.{IsOfRepository, IsFoundOfRepository, IsOfEvent, IsOfFaulty, IsOfSync, IsOfTakedown, IsGiven}
 use Rattle.chain_law.proofs.Own.{sync_carries, down_carries, up_carries}
 use Rattle.chain_law.proofs.Renumbered.{carried_on}
 use Rattle.chain_law.specs.Again.{Trails}
@@ -94,11 +93,11 @@ held_trails a b active status down t =
     let off : (x : Bool) → (x && not a.down) ≡ false = λ x. ap (λ (d : Bool). x && not d) down ∙ elim x as (λ y. (y && false) ≡ false) [ true ↦ refl | false ↦ refl ] in
     record { active = t.active ∙ off a.active ∙ sym (off active); up = t.up; rev = t.rev; repo = t.repo }
 
-held_stays : (checks : Checks) (a b : State) (e : Seen) (o : Outside) (m : Option ℕ) (last : ℕ) (body : Body) → is_held a body ≡ true → Trails a b → Trails (effected a (effect_of body (answers_at checks last a e o m))) b
-held_stays checks a b e o m last (Body.Commit c) held t = absurd cc
-held_stays checks a b e o m last (Body.Sync s) held t = absurd cc
-held_stays checks a b e o m last Body.Identity held t = absurd cc
-held_stays checks a b e o m last (Body.Account c) held t = held_trails a b c.active c.status held t
+held_stays : (checks : Checks) (a b : State) (e : Seen) (body : Body) → is_held a body ≡ true → Trails a b → Trails (effected a (effect_of body (Some (checks.opens e (last_rev a.repo))))) b
+held_stays checks a b e (Body.Commit c) held t = absurd cc
+held_stays checks a b e (Body.Sync s) held t = absurd cc
+held_stays checks a b e Body.Identity held t = absurd cc
+held_stays checks a b e (Body.Account c) held t = held_trails a b c.active c.status held t
 
 lost_trails : (a b : State) → Trails a b → Trails (record a { repo = Repo.Lost (last_rev a.repo) }) b
 lost_trails a b t = record { active = t.active; up = t.up; rev = t.rev; repo = λ known. absurd (known (last_rev a.repo) refl) }
@@ -106,17 +105,17 @@ lost_trails a b t = record { active = t.active; up = t.up; rev = t.rev; repo = �
 module _ (checks : Checks) (opens : OpensRight checks) (links : LinksRight checks) where
   module _ (last : ℕ) (a : State) (host : List ℕ) (e : Seen) (read : IsEvent e) (o : Outside) (m : Option ℕ) where
     abbrev taken_for : Option Refusal → Taken
-    taken_for q = event_taken last host e (decision_for a e.body o.fetched q) (answers_at checks last a e o m)
+    taken_for q = event_row checks last a host e o m q
 
     abbrev TellsFor : Taken → Type 0
     TellsFor t = Tells checks last e.did false (raises (last_rev a.repo) (Row.Taken t)) a (moved a (Row.Taken t)) (events_in (Row.Taken t))
 
     accepted_tells : refusal_at checks a e o m ≡ None → is_number (taken_for None).seq ≡ true → TellsFor (taken_for None)
     accepted_tells none =
-        let after = effected a (effect_of e.body (answers_at checks last a e o m)) in
-        elim (is_held a e.body) as (λ h. is_held a e.body ≡ h → is_number (cond (not h) (last + 1) 0) ≡ true
-        → Tells checks last e.did false true a after (cond (eqb (cond (not h) (last + 1) 0) 0) [] ((cond (not h) (last + 1) 0, cond (not h) (out_of e (last + 1)) []) ∷ []))) [
-          | true ↦ λ held number. inl (record { none = refl; stays = λ own b t. held_stays checks a b e o m last e.body held t })
+        let after = effected a (effect_of e.body (Some (checks.opens e (last_rev a.repo)))) in
+        elim (is_held a e.body) as (λ h. is_held a e.body ≡ h → is_number (cond h 0 (last + 1)) ≡ true
+        → Tells checks last e.did false true a after (cond (eqb (cond h 0 (last + 1)) 0) [] ((cond h 0 (last + 1), cond h [] (out_of e (last + 1))) ∷ []))) [
+          | true ↦ λ held number. inl (record { none = refl; stays = λ own b t. held_stays checks a b e e.body held t })
           | false ↦ λ held number.
               let below = ltb-true (last + 1) NUMBERS number in
               inr (record {
@@ -126,7 +125,7 @@ module _ (checks : Checks) (opens : OpensRight checks) (links : LinksRight check
                 reads = out_again e (last + 1) below read;
                 did_is = refl;
                 seq_is = refl;
-                carries = λ raised. carried_on checks opens links e read (last + 1) below a o m last (accepted_shows checks a e o m none) held;
+                carries = λ raised. carried_on checks opens links e read (last + 1) below a (accepted_shows checks a e o m none) held;
               })
         ] refl
 

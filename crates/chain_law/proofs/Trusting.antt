@@ -27,14 +27,13 @@ use Rattle.relay_row.specs.declared.row.Row.{Row}
 use Rattle.relay_row.specs.declared.taken.Taken.{Taken}
 use Rattle.account_state.specs.Folds.{account, last_rev}
 use Rattle.account_state.specs.State.{State}
-use Rattle.relay_core.specs.Answering.{answers as all_answers, as_result, decision_for}
-use Rattle.relay_core.specs.Decide.{Checks, Outside, Found, decided_event, first_refusal, or_later, refusal_of, is_ahead, refusal_in, when}
+use Rattle.relay_core.specs.Decide.{Checks, Outside, decided_event, first_refusal, body_refusals, refusal_of, is_ahead, refusal_in, when}
 use Rattle.relay_core.specs.Opening.{OpensRight, shown_alone}
 use Rattle.relay_core.specs.Rows.{faulty_taken}
 use Rattle.relay_core.specs.Runs.{IsMadeBy}
 use Rattle.relay_core.specs.Shown.{says_yes, shown, shows_home, shows_verdict}
-use Rattle.relay_core.specs.Table.{body_lines}
 use Rattle.relay_core.specs.declared.limits.TheConstants.{LONGEST_MESSAGE}
+use Rattle.relay_core.proofs.Agreeing.{event_told}
 use Rattle.relay_core.proofs.Showing.{table}
 use Rattle.relay_law.proofs.Sounding.{taken_is}
 use Rattle.relay_step.specs.Around.{Around, AllAsked}
@@ -151,7 +150,7 @@ unjudged_not lines are h =
     let no : true ≡ false = first_unjudged lines Refusal.BadSignature are h in
     absurd cc
 
-signed_from : (o : Option Refusal) (b : Bool) (l i d u : Option Refusal) (v : Bool) (k : Option Refusal) → l ≢ Some Refusal.BadSignature → i ≢ Some Refusal.BadSignature → d ≢ Some Refusal.BadSignature
+signed_from : (o : Option Refusal) (b : Bool) (l i d u : Option Refusal) (v : Bool) (k : List (Option Refusal)) → l ≢ Some Refusal.BadSignature → i ≢ Some Refusal.BadSignature → d ≢ Some Refusal.BadSignature
     → table l b i d o u v k ≡ Some Refusal.BadSignature → (o ≡ None) ⊎ (o ≡ Some Refusal.BadSignature)
 signed_from o b (Some r) i d u v k nl ni nd h = absurd (nl h)
 signed_from o false None i d u v k nl ni nd h = absurd cc
@@ -168,11 +167,16 @@ object_there : {A : Type 0} (f : Commit → A) (o : Option Commit) → not (is_s
 object_there f None there none = absurd cc
 object_there f (Some c) there none = absurd cc
 
-no_short : (l b d : Bool) → or_later (when l Refusal.TooLong) (or_later (when (not b) Refusal.NotHome) (or_later (when d Refusal.TakenDown) None)) ≡ Some Refusal.BadSignature → ⊥
+no_short : (l b d : Bool) → first_refusal (when l Refusal.TooLong ∷ when (not b) Refusal.NotHome ∷ when d Refusal.TakenDown ∷ []) ≡ Some Refusal.BadSignature → ⊥
 no_short true b d h = absurd cc
 no_short false false d h = absurd cc
 no_short false true true h = absurd cc
 no_short false true false h = absurd cc
+
+no_home : (l b : Bool) → first_refusal (when l Refusal.TooLong ∷ when (not b) Refusal.NotHome ∷ []) ≡ Some Refusal.BadSignature → ⊥
+no_home true b h = absurd cc
+no_home false false h = absurd cc
+no_home false true h = absurd cc
 
 module _ (checks : Checks) (opens : OpensRight checks) (a : State) (e : Seen) (o : Outside) where
   abbrev last : Option ℕ
@@ -184,7 +188,7 @@ module _ (checks : Checks) (opens : OpensRight checks) (a : State) (e : Seen) (o
   abbrev far : Option Refusal
   far = when (nat_lt LONGEST_MESSAGE (out_length e)) Refusal.TooLong
 
-  from_table : (u k : Option Refusal) → table far o.home (when (not a.active) Refusal.Inactive) (when a.down Refusal.TakenDown) opened u o.verdict k ≡ Some Refusal.BadSignature → (opened ≡ None) ⊎ (opened ≡ Some Refusal.BadSignature)
+  from_table : (u : Option Refusal) (k : List (Option Refusal)) → table far o.home (when (not a.active) Refusal.Inactive) (when a.down Refusal.TakenDown) opened u o.verdict k ≡ Some Refusal.BadSignature → (opened ≡ None) ⊎ (opened ≡ Some Refusal.BadSignature)
   from_table u k h =
       signed_from opened o.home far (when (not a.active) Refusal.Inactive) (when a.down Refusal.TakenDown) u o.verdict k
       (when_not (nat_lt LONGEST_MESSAGE (out_length e)) Refusal.TooLong (λ no. absurd cc)) (when_not (not a.active) Refusal.Inactive (λ no. absurd cc)) (when_not a.down Refusal.TakenDown (λ no. absurd cc)) h
@@ -192,19 +196,19 @@ module _ (checks : Checks) (opens : OpensRight checks) (a : State) (e : Seen) (o
   shown_as : (body : Body) (x : Option Refusal) → e.body ≡ body → opened ≡ x → shown_alone body last ≡ x
   shown_as body x same is = sym (ap (λ (b : Body). shown_alone b last) same) ∙ sym (opens.refusal e last) ∙ is
 
-  body_signed : (body : Body) → e.body ≡ body → or_later far (first_refusal (body_lines a body (all_answers checks 0 a e o))) ≡ Some Refusal.BadSignature → signed_by body ≡ None → ⊥
+  body_signed : (body : Body) → e.body ≡ body → first_refusal (far ∷ body_refusals checks a e body o (Some o.moment)) ≡ Some Refusal.BadSignature → signed_by body ≡ None → ⊥
   body_signed (Body.Commit c) same h none =
-      elim (from_table (when (is_ahead c.rev (Some o.moment)) Refusal.FutureRev) (refusal_in (as_result (checks.links e a.repo))) h) [
+      elim (from_table (when (is_ahead c.rev (Some o.moment)) Refusal.FutureRev) (checks.links e a.repo ∷ []) h) [
         | inl fine ↦ object_there _ (object_in (car_in c)) (all_unmet (open_lines c last) (shown_as (Body.Commit c) None same fine)).1.1.1.1.1.1.1.1.1.1.1.0 none
         | inr bad ↦ unjudged_not (open_lines c last) (refl, (refl, (refl, (refl, (refl, (refl, (refl, (refl, (refl, (refl, (refl, (refl, (refl, tt))))))))))))) (shown_as (Body.Commit c) (Some Refusal.BadSignature) same bad)
       ]
   body_signed (Body.Sync s) same h none =
-      elim (from_table (when (is_ahead s.rev (Some o.moment)) Refusal.FutureRev) None h) [
+      elim (from_table (when (is_ahead s.rev (Some o.moment)) Refusal.FutureRev) [] h) [
         | inl fine ↦ object_there _ (object_in (car_of s.blocks)) (all_unmet (sync_lines s last) (shown_as (Body.Sync s) None same fine)).1.1.1.1.1.1.0 none
         | inr bad ↦ unjudged_not (sync_lines s last) (refl, (refl, (refl, (refl, (refl, (refl, (refl, (refl, tt)))))))) (shown_as (Body.Sync s) (Some Refusal.BadSignature) same bad)
       ]
   body_signed Body.Identity same h none = no_short (nat_lt LONGEST_MESSAGE (out_length e)) o.home a.down h
-  body_signed (Body.Account b) same h none = no_short (nat_lt LONGEST_MESSAGE (out_length e)) o.home false h
+  body_signed (Body.Account b) same h none = no_home (nat_lt LONGEST_MESSAGE (out_length e)) o.home h
 
   is_signed : refusal_of checks a e o ≡ Some Refusal.BadSignature → signed_by e.body ≡ None → ⊥
   is_signed h none = body_signed e.body refl h none
@@ -217,16 +221,12 @@ verdict_shown e (Some Refusal.BadSignature) signed all = by_signed (signed_by e.
     by_signed (Some s) there calls = absurd (false≢true calls.0)
 verdict_shown e other signed all = refl
 
-decision_refusal : (a : State) (body : Body) (f : Found) (q : Option Refusal) → (decision_for a body f q).refusal ≡ q
-decision_refusal a body f None = refl
-decision_refusal a body f (Some r) = refl
-
 taken_yes : (checks : Checks) → OpensRight checks → (J : List Row) (host : List ℕ) (frame : Result Frame FrameFault) (t : Taken) (fetch : List Call) → IsMadeBy checks J (host, frame) (Row.Taken t) → AllYes (step_calls host frame (recorded t) fetch)
     → says_yes (Row.Taken t) ≡ true
 taken_yes checks opens J host (Ok (Frame.Event e)) t fetch made all =
     let a = account e.did J in
     let is = taken_is (decided_event checks (last_seq J) a host e (shown t)) t made in
-    let same : refusal_of checks a e (shown t) ≡ t.refusal = sym (decision_refusal a e.body (shown t).fetched (refusal_of checks a e (shown t))) ∙ ap (λ (s : Taken). s.refusal) is in
+    let same : refusal_of checks a e (shown t) ≡ t.refusal = sym (event_told checks (last_seq J) a host e (shown t) (Some (shown t).moment) (refusal_of checks a e (shown t))).refusal ∙ ap (λ (s : Taken). s.refusal) is in
     let behind = yes_right (home_calls host e t.refusal) _ all in
     and_from (shows_home t.refusal) (shows_verdict t.refusal) (home_shown host e t.refusal (yes_left (home_calls host e t.refusal) _ all))
     (verdict_shown e t.refusal (λ bad. is_signed checks opens a e (shown t) (same ∙ bad)) (yes_left (verdict_calls e t.refusal) fetch behind))

@@ -16,7 +16,6 @@ use Rattle.account_state.specs.Folds.{account, last_rev}
 use Rattle.account_state.specs.State.{State}
 use Rattle.repo_sync.specs.Repository.{IsWhole}
 use Rattle.repo_sync.specs.declared.found.Found.{Found as Checked}
-use Rattle.relay_core.specs.Answering.{answers}
 use Rattle.relay_core.specs.Decide.{Checks, Outside, Found, absent, unfit, found, event_taken_at, whole_under}
 use Rattle.relay_core.specs.Operating.{operate_refusal, operated_as, sync_refusal}
 use Rattle.relay_core.specs.Rows.{faulty_taken}

@@ -11,7 +11,6 @@ use Rattle.relay_row.specs.Folds.{last_seq}
 use Rattle.relay_row.specs.declared.row.Row.{Row}
 use Rattle.relay_row.specs.declared.taken.Taken.{Taken}
 use Rattle.account_state.specs.Folds.{account, last_rev}
-use Rattle.account_state.specs.State.{State}
 use Rattle.commit_check.specs.Order.{StopsPast}
 use Rattle.commit_check.specs.Step.{edits_of, root_before, Leads}
 use Rattle.commit_check.proofs.Formed.{commit_read, edits_formed}

@@ -37,7 +37,7 @@ use Rattle.relay_law.specs.Laws.{AreEvents}
 use Rattle.relay_law.specs.Right.{LinksRight}
 use Rattle.relay_law.proofs.Own.{whole_gives}
 use Rattle.relay_law.proofs.Reading.{EventRead, event_reads}
-use Rattle.relay_law.proofs.Sounding.{accepted_taken, decided_formed, later_events, later_none, links_none, taken_is}
+use Rattle.relay_law.proofs.Sounding.{accepted_taken, decided_did, decided_formed, later_events, later_none, links_none, taken_is}
 use Rattle.relay_law.specs.Faithful.{HoldsOfWhole, SendsEvent, SendsSync, SendsWhatItKeeps, SendWhatTheyKeep}
 use Rattle.relay_law.specs.Heads.{FetchesGive, FoundGives, GivesHead}
 use Rattle.relay_law.specs.Laws.{RunsAreFaithful}
@@ -153,6 +153,8 @@ taken_gives checks opens links J host (Frame.Event e) t others read gives is mad
     let a = account e.did J in
     subst P (taken_is (decided_event checks n a host e (shown t)) t made) (λ formed.
     let made_taken = decided_event checks n a host e (shown t) in
+    let G : List ℕ → Type 0 = λ did. SendsEvent (account did J).repo made_taken made_taken.effect × HoldsOfWhole (SendsSync did) made_taken.fetched in
+    subst G (sym (decided_did checks n a host e (shown t)))
     (both_sent a.repo made_taken made_taken.effect (event_reads checks n a host e (shown t) read.0 formed) (event_gives checks opens links n a host e (shown t) read.0 formed), fetch_gives checks n a host e (shown t) read.0 gives formed)) is
 taken_gives checks opens links J host (Frame.Faulty seq) t others read gives is made =
     let P : Taken → Type 0 = λ s. SendsWhatItKeeps J (Row.Taken s) in

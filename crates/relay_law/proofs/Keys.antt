@@ -14,7 +14,7 @@ use Rattle.relay_row.specs.declared.fetched.Fetched.{Fetched}
 use Rattle.relay_row.specs.declared.row.Row.{Row}
 use Rattle.relay_row.specs.declared.taken.Effect.{Effect}
 use Rattle.relay_row.specs.declared.taken.Taken.{Taken}
-use Rattle.account_state.specs.Folds.{account, account_after, fresh, moved, taken_by, effected, lost, refetched}
+use Rattle.account_state.specs.Folds.{account, account_after, fresh, moved, taken_by, lost, refetched}
 use Rattle.account_state.specs.State.{State}
 use Rattle.relay_core.specs.Decide.{Checks, Outside, Found, absent, unfit, found, fetched_as, first_refusal, refusal_of, decided_event, decided, body_refusals, event_row, when}
 use Rattle.relay_core.specs.Rows.{faulty_taken, kind_number}

@@ -24,7 +24,7 @@ use Rattle.relay_law.specs.Carried.{IsOfKnown, AreOfKnown}
 use Rattle.relay_law.specs.Chains.{Part, commits, nothing, effect_part, taken_part, part_in}
 use Rattle.relay_law.specs.Laws.{RunsFollowKnown}
 use Rattle.relay_law.specs.Right.{AreRight}
-use Rattle.relay_law.proofs.Sounding.{accepted_taken, later_none, links_none, taken_is}
+use Rattle.relay_law.proofs.Sounding.{accepted_taken, decided_did, later_none, links_none, taken_is}
 use Rattle.account_state.proofs.Dids.{names_same}
 
 pub some_name : (b : Bool) (q : Part) (m d : List ℕ) → cond b q nothing ≡ commits m d → (b ≡ true) × (q ≡ commits m d)
@@ -63,7 +63,9 @@ taken_known checks right J host (Frame.Event e) t made =
     let P : Taken → Type 0 = λ s. IsOfKnown J (Row.Taken s) in
     let s = decided_event checks (last_seq J) (account e.did J) host e (shown t) in
     subst P (taken_is s t made) (λ did m d rev h.
-    let there = some_name (names did e.did) (part_in (Row.Taken s)) m d h in
+    let named : cond (names did e.did) (part_in (Row.Taken s)) nothing ≡ commits m d =
+    subst (λ (x : List ℕ). cond (names did x) (part_in (Row.Taken s)) nothing ≡ commits m d) (decided_did checks (last_seq J) (account e.did J) host e (shown t)) h in
+    let there = some_name (names did e.did) (part_in (Row.Taken s)) m d named in
     subst (λ (x : List ℕ). (account x J).repo ≢ Repo.Lost rev) (sym (names_same did e.did there.0)) (event_known checks right (last_seq J) (account e.did J) host e (shown t) m d rev there.1))
 taken_known checks right J host (Frame.Faulty seq) t made =
     let P : Taken → Type 0 = λ s. IsOfKnown J (Row.Taken s) in

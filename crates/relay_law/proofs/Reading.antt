@@ -1,5 +1,5 @@
 -- The rows of a run are read back, whatever heads they keep.
-use Rattle.std.proofs.Common.{◌≡◌, ◌≢◌, ℕ, ◌+◌, Bool, true, false, not, ◌&&◌, ◌||◌, List, [], ◌∷◌, ◌++◌, Option, Some, None, Ok, Err, refl, ap, ◌∙◌, sym, cond, subst, append_assoc}
+use Rattle.std.proofs.Common.{◌≡◌, ◌≢◌, ℕ, ◌+◌, Bool, true, false, ◌&&◌, ◌||◌, List, [], ◌∷◌, ◌++◌, Option, Some, None, Ok, Err, refl, ap, ◌∙◌, sym, cond, subst, append_assoc}
 use Rattle.std.proofs.lemmas.Bool.{and_parts, ltb-true, eqb-true}
 use Rattle.std.specs.Prelude.{nat_lt, ◌<◌, ◌==◌}
 use Rattle.at_event.specs.Events.{IsEvent}
@@ -31,7 +31,7 @@ use Rattle.relay_core.specs.declared.decision.Pass.{Pass}
 use Rattle.relay_law.specs.Faithful.{AreReadBack, HoldsOfWhole, IsReadBack, SendsEvent, SendsRev}
 use Rattle.relay_law.specs.Laws.{AreEvents, RunsAreReadBack}
 use Rattle.relay_law.proofs.Own.{whole_reads}
-use Rattle.relay_law.proofs.Sounding.{decided_formed, later_events, taken_is}
+use Rattle.relay_law.proofs.Sounding.{decided_did, decided_formed, later_events, taken_is}
 
 -- an event's message is read, whatever head its row keeps
 abbrev pub EventRead : Taken → Type 0
@@ -102,7 +102,10 @@ taken_reads checks J host (Frame.Event e) t others read is made =
     let P : Taken → Type 0 = λ s. is_taken s ≡ true → IsReadBack (Row.Taken s) in
     let n = last_seq J in
     let a = account e.did J in
-    subst P (taken_is (decided_event checks n a host e (shown t)) t made) (λ formed. (event_reads checks n a host e (shown t) read.0 formed, fetch_reads checks n a host e (shown t) read.0 formed)) is
+    subst P (taken_is (decided_event checks n a host e (shown t)) t made) (λ formed. (
+      event_reads checks n a host e (shown t) read.0 formed,
+      subst (λ (did : List ℕ). HoldsOfWhole (SendsRev did) (decided_event checks n a host e (shown t)).fetched) (sym (decided_did checks n a host e (shown t))) (fetch_reads checks n a host e (shown t) read.0 formed),
+    )) is
 taken_reads checks J host (Frame.Faulty seq) t others read is made =
     let P : Taken → Type 0 = λ s. IsReadBack (Row.Taken s) in
     subst P (taken_is (faulty_taken host seq (Some (shown t).moment)) t made) ((λ some. absurd (some refl)), tt)

@@ -31,6 +31,7 @@ use Rattle.relay_core.specs.Runs.{Message, Turn, IsMadeBy, RunFrom, skipped_by, 
 use Rattle.relay_core.specs.Shown.{shown}
 use Rattle.relay_core.specs.declared.decision.Pass.{Pass}
 use Rattle.relay_core.specs.declared.limits.TheConstants.{LONGEST_MESSAGE}
+use Rattle.relay_core.proofs.Agreeing.{event_told}
 use Rattle.relay_law.specs.Chains.{Part, rests, nothing, effect_part, taken_part, part_in, part_of}
 use Rattle.relay_law.specs.Laws.{AreEvents, RunsStaySound, OperatorsStaySound}
 use Rattle.relay_law.specs.Right.{AreRight, root_expected}
@@ -153,6 +154,10 @@ event_part_follows checks right n a host e o p read h =
       | None ↦ λ q is. accepted_follows checks right n a host e o p read h e.body refl (later_none (when (nat_lt LONGEST_MESSAGE (out_length e)) Refusal.TooLong) (body_refusals checks a e e.body o (Some o.moment)) q) is
     ] refl
 
+-- the row of an event is of its account
+pub decided_did : (checks : Checks) (n : ℕ) (a : State) (host : List ℕ) (e : Seen) (o : Outside) → (decided_event checks n a host e o).did ≡ e.did
+decided_did checks n a host e o = (event_told checks n a host e o (Some o.moment) (refusal_of checks a e o)).did
+
 -- the row of a message follows at the newest root of every account
 
 pub taken_is : (s t : Taken) → Some s ≡ Some t → s ≡ t
@@ -162,9 +167,11 @@ event_follows : (checks : Checks) → AreRight checks → (J : List Row) → IsJ
     → is_taken (decided_event checks (last_seq J) (account e.did J) host e o) ≡ true
     → (did : List ℕ) → FollowsAt (root_now did empty_root J) (part_of did (Row.Taken (decided_event checks (last_seq J) (account e.did J) host e o)))
 event_follows checks right J journal host e o read is did =
-    at_name (names did e.did) (root_now did empty_root J) (part_in (Row.Taken (decided_event checks (last_seq J) (account e.did J) host e o))) (λ named.
+    let t = decided_event checks (last_seq J) (account e.did J) host e o in
     let P : List ℕ → Type 0 = λ x. IsTracked (account x J).repo (root_now did empty_root J) in
-    event_part_follows checks right (last_seq J) (account e.did J) host e o (root_now did empty_root J) read (subst P (names_same did e.did named) (tracked did J journal)) is)
+    let Q : List ℕ → Type 0 = λ x. FollowsAt (root_now did empty_root J) (cond (names did x) (part_in (Row.Taken t)) nothing) in
+    subst Q (sym (decided_did checks (last_seq J) (account e.did J) host e o)) (at_name (names did e.did) (root_now did empty_root J) (part_in (Row.Taken t)) (λ named.
+    event_part_follows checks right (last_seq J) (account e.did J) host e o (root_now did empty_root J) read (subst P (names_same did e.did named) (tracked did J journal)) is))
 
 faulty_follows : (p did host : List ℕ) (seq : ℕ) (moment : Option ℕ) → FollowsAt p (part_of did (Row.Taken (faulty_taken host seq moment)))
 faulty_follows p did host seq moment = let t = faulty_taken host seq moment in at_name (names did []) p (part_in (Row.Taken t)) (λ named. quiet_part p t t.fetched refl)
