@@ -7,7 +7,8 @@ pub fn asks_once()
     ensures { AsksOnce }
 {}
 
-/// With all answers, an event is decided by the first refusal of the table that applies.
+/// With all answers, an event is decided by the first refusal that applies, and the row that is made of this decision is
+/// the one that is decided.
 pub fn next_decides()
     ensures { NextDecides }
 {}

@@ -26,6 +26,7 @@ use Rattle.relay_core.specs.Shown.{shown}
 use Rattle.relay_core.specs.Table.{did_of}
 use Rattle.relay_core.specs.declared.answers.Answers.{Answers}
 use Rattle.relay_core.specs.declared.decision.Decision.{Decision}
+use Rattle.relay_core.proofs.Agreeing.{decided_as}
 use Rattle.relay_step.specs.Steps.{Step, Decided, after_end, skipped, recorded, AreSteps, IsDecidedAs, ended_decided, message_of, messages, rows, rows_decided}
 use Rattle.store_take.specs.Lines.{line_of}
 use Rattle.store_take.specs.Outcomes.{fetch_in, outcome_as, outcome_decided, skipped_outcome, taken_outcome}
@@ -48,7 +49,8 @@ made_of : (checks : Checks) (J : List Row) (host : List ℕ) (frame : Result Fra
 made_of checks J host (Ok (Frame.Event e)) t made =
     let a = account (did_of (Frame.Event e)) J in
     let o = shown t in
-    of_event (last_seq J) e (decision_for a e.body o.fetched (refusal_of checks a e o)) (answers checks (last_seq J) a e o) (same_taken (decided_event checks (last_seq J) a host e o) t made)
+    of_event (last_seq J) e (decision_for a e.body o.fetched (refusal_of checks a e o)) (answers checks (last_seq J) a e o)
+    (sym (decided_as checks (last_seq J) a host e o) ∙ same_taken (decided_event checks (last_seq J) a host e o) t made)
 made_of checks J host (Ok (Frame.Faulty seq)) t made = of_faulty seq (Some (shown t).moment) (same_taken (faulty_taken host seq (Some (shown t).moment)) t made)
 made_of checks J host (Ok Frame.Info) t made = let no : ⊥ = cc in absurd no
 made_of checks J host (Ok Frame.Error) t made = let no : ⊥ = cc in absurd no

@@ -27,6 +27,7 @@ use Rattle.relay_core.specs.Runs.{IsMadeBy, Message, Run, skipped_by}
 use Rattle.relay_core.specs.Shown.{or_zero, shown, shows_home, shows_verdict}
 use Rattle.relay_core.specs.declared.answers.Answers.{Answers}
 use Rattle.relay_core.specs.declared.decision.Pass.{Pass}
+use Rattle.relay_core.proofs.Agreeing.{decided_as}
 use Rattle.relay_law.specs.Calls.{as_read}
 use Rattle.relay_law.specs.Covered.{IsCovered}
 use Rattle.relay_law.specs.Faithful.{IsFaithfulJournal}
@@ -137,7 +138,7 @@ module _ (checks : Checks) (opens : OpensRight checks) (links : LinksRight check
       let o = shown t in
       let now : IsCovered J host e o.moment = subst (λ (m : Option ℕ). IsCovered J host e (or_zero m)) (sym moment_is) covered in
       good_by (last_seq J) t t.refusal (covered_accepted checks opens links J host e o t read now made)
-      (commit_seq (last_seq J) host e covered.commit a o.fetched (refusal_of checks a e o) (answers checks (last_seq J) a e o) t covered.body (same_taken (decided_event checks (last_seq J) a host e o) t made))
+      (commit_seq (last_seq J) host e covered.commit a o.fetched (refusal_of checks a e o) (answers checks (last_seq J) a e o) t covered.body (sym (decided_as checks (last_seq J) a host e o) ∙ same_taken (decided_event checks (last_seq J) a host e o) t made))
 
   gets : (J : List Row) (ended : List (List ℕ)) (s : Step) (told : Decided) (e : Seen) → IsDecidedAs checks J ended (message_of s) told → IsEvent e → frame_of s.bytes ≡ Ok (Frame.Event e) → GetsThrough J s.host e told
   gets J ended s after_end e h read is = tt

@@ -17,7 +17,6 @@ use Rattle.relay_row.specs.declared.fetched.Fetched.{Fetched}
 use Rattle.relay_row.specs.declared.row.Row.{Row}
 use Rattle.relay_row.specs.declared.taken.Taken.{Taken}
 use Rattle.account_state.specs.Folds.{account}
-use Rattle.relay_core.specs.Answering.{answers, fetched_of}
 use Rattle.relay_core.specs.Decide.{Checks, absent, decided_event}
 use Rattle.relay_core.specs.Rows.{faulty_taken}
 use Rattle.relay_core.specs.Opening.{OpensRight}

@@ -11,8 +11,7 @@ use Rattle.relay_row.specs.Folds.{last_seq}
 use Rattle.relay_row.specs.declared.fetched.Fetched.{Fetched}
 use Rattle.relay_row.specs.declared.row.Row.{Row}
 use Rattle.relay_row.specs.declared.taken.Taken.{Taken}
-use Rattle.relay_core.specs.Answering.{answers, fetched_of}
-use Rattle.relay_core.specs.Decide.{Checks, Outside, absent, decided, decided_event}
+use Rattle.relay_core.specs.Decide.{Checks, Outside, absent, decided, decided_event, event_row, refusal_of}
 use Rattle.relay_core.specs.Opening.{OpensRight}
 use Rattle.relay_core.specs.Rows.{faulty_taken}
 use Rattle.relay_core.specs.Runs.{Message, Turn, has_ended, skipped_by, IsMadeBy}
@@ -20,6 +19,7 @@ use Rattle.relay_core.specs.Shown.{shown, shows_home, shows_verdict, found_in, o
 use Rattle.relay_core.specs.Table.{did_of}
 use Rattle.relay_core.specs.Worlds.{World, RunIn, RunsIn, IsMadeIn, CanSendFor, outside_of}
 use Rattle.relay_core.specs.declared.decision.Pass.{Pass}
+use Rattle.relay_core.proofs.Agreeing.{event_told}
 use Rattle.relay_law.specs.Calls.{as_read}
 use Rattle.relay_law.specs.Right.{LinksRight}
 use Rattle.relay_step.specs.Steps.{Decided, after_end, skipped, recorded, Step, AreSteps, IsDecidedAs, ended_decided, message_of, messages, rows, rows_decided}
@@ -46,9 +46,12 @@ IsRunOf sent rows = (checks : Checks) → OpensRight checks → LinksRight check
 module _ (checks : Checks) (J : List Row) (host : List ℕ) (t : Taken) (none : t.refusal ≡ None) where
   nothing_fetched : (frame : Result Frame FrameFault) → IsMadeBy checks J (host, frame) (Row.Taken t) → t.fetched ≡ Fetched.NotAsked
   nothing_fetched (Ok (Frame.Event e)) made =
-      let is : decided_event checks (last_seq J) (account e.did J) host e (shown t) ≡ t = cc in
+      let a = account e.did J in
+      let o = shown t in
+      let is : decided_event checks (last_seq J) a host e o ≡ t = cc in
+      let told = event_told checks (last_seq J) a host e o (Some o.moment) (refusal_of checks a e o) in
       sym (ap (λ (x : Taken). x.fetched) is)
-      ∙ ap (λ (o : Option Refusal). fetched_of o (answers checks (last_seq J) (account e.did J) e (shown t)).fetched) (ap (λ (x : Taken). x.refusal) is ∙ none)
+      ∙ ap (λ (q : Option Refusal). (event_row checks (last_seq J) a host e o (Some o.moment) q).fetched) (sym told.refusal ∙ ap (λ (x : Taken). x.refusal) is ∙ none)
   nothing_fetched (Ok (Frame.Faulty seq)) made =
       let is : faulty_taken host seq (Some (shown t).moment) ≡ t = cc in
       let no : Some Refusal.BadEvent ≡ None = ap (λ (x : Taken). x.refusal) is ∙ none in
