@@ -230,13 +230,13 @@ passes_on checks K host message e messages rows reads old run =
 
 module _ (checks : Checks) (K : List Row) (host : List ℕ) (e : Seen) (messages : List Message) (rows : List Row) (g : TakesOn checks K host e messages rows) where
   row_did : did_of_row g.row ≡ e.did
-  row_did = ap did_of_row g.row_of.row_is ∙ sym (ap (λ (s : Taken). s.did) g.row_of.is)
+  row_did = ap did_of_row g.row_of.row_is ∙ g.row_of.did_is
 
   row_seq : host_seq_in g.row ≡ e.seq
-  row_seq = ap host_seq_in g.row_of.row_is ∙ sym (ap (λ (s : Taken). s.host_seq) g.row_of.is)
+  row_seq = ap host_seq_in g.row_of.row_is ∙ g.row_of.seq_is
 
   row_host : host_in g.row ≡ host
-  row_host = ap host_in g.row_of.row_is ∙ sym (ap (λ (s : Taken). s.host) g.row_of.is)
+  row_host = ap host_in g.row_of.row_is ∙ g.row_of.host_is
 
   cursor_low : (n : ℕ) → cursor host K ≤ n → e.seq ≤ n → cursor host (K ++ g.row ∷ []) ≤ n
   cursor_low n low within = omega (arith, cursors_joined host K (g.row ∷ []), cursor_stays host (cursor host K) n g.row low (omega (arith, row_seq, within)))

@@ -81,9 +81,24 @@ pub record IsRowOf (checks : Checks) (K : List Row) (host : List ℕ) (e : Seen)
   pub taken : Taken
   pub row_is : row ≡ Row.Taken taken
   pub is : decided_event checks (last_seq K) (account e.did K) host e (shown taken) ≡ taken
+  pub host_is : taken.host ≡ host
+  pub seq_is : taken.host_seq ≡ e.seq
+  pub did_is : taken.did ≡ e.did
 
 row_made : (checks : Checks) (K : List Row) (host : List ℕ) (e : Seen) (row : Row) → IsMadeBy checks K (host, Ok (Frame.Event e)) row → IsRowOf checks K host e row
-row_made checks K host e (Row.Taken t) made = record { taken = t; row_is = refl; is = taken_is (decided_event checks (last_seq K) (account e.did K) host e (shown t)) t made }
+row_made checks K host e (Row.Taken t) made =
+    let a = account e.did K in
+    let o = shown t in
+    let is = taken_is (decided_event checks (last_seq K) a host e o) t made in
+    let told = event_told checks (last_seq K) a host e o (Some o.moment) (refusal_of checks a e o) in
+    record {
+      taken = t;
+      row_is = refl;
+      is = is;
+      host_is = sym (ap (λ (s : Taken). s.host) is) ∙ told.host;
+      seq_is = sym (ap (λ (s : Taken). s.host_seq) is) ∙ told.seq;
+      did_is = sym (ap (λ (s : Taken). s.did) is) ∙ told.did;
+    }
 row_made checks K host e (Row.Synced did w moment) made = absurd made
 row_made checks K host e (Row.Operated o) made = absurd made
 row_made checks K host e (Row.Carried c) made = absurd made
@@ -300,10 +315,10 @@ module _ (checks : Checks) (opens : OpensRight checks) (links : LinksRight check
       t = goes.row_of.taken
 
       taken_did : t.did ≡ e.did
-      taken_did = sym (ap (λ (s : Taken). s.did) goes.row_of.is)
+      taken_did = goes.row_of.did_is
 
       taken_seq : t.host_seq ≡ e.seq
-      taken_seq = sym (ap (λ (s : Taken). s.host_seq) goes.row_of.is)
+      taken_seq = goes.row_of.seq_is
 
       new_did : did_of_row new ≡ did_of_row row
       new_did = ap did_of_row goes.row_of.row_is ∙ taken_did ∙ of_did

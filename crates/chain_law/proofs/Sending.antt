@@ -38,6 +38,7 @@ use Rattle.relay_core.specs.Decide.{Checks, Outside, Found, absent, unfit, found
 use Rattle.relay_core.specs.Opening.{OpensRight}
 use Rattle.relay_core.specs.Operating.{operated_message}
 use Rattle.relay_core.specs.Rows.{effect_of}
+use Rattle.relay_core.proofs.Agreeing.{event_told}
 use Rattle.relay_law.specs.Right.{LinksRight}
 use Rattle.relay_law.proofs.Heads.{accounts_are_formed}
 use Rattle.relay_law.proofs.Own.{did_named, number_below, status_is, sync_blocks, takendown}
@@ -178,7 +179,12 @@ module _ (checks : Checks) (opens : OpensRight checks) (links : LinksRight check
   taken_tells J t formed g =
       let P : Taken → Type 0 = λ s. TellsOf J (Row.Taken s) in
       let F : Taken → Type 0 = λ s. is_taken s ≡ true in
-      subst P (sym g.is) (event_tells (last_seq J) (account g.event.did J) g.host g.event g.read g.outside g.moment g.fetched (subst F g.is formed))
+      let a = account g.event.did J in
+      let made = event_taken_at checks (last_seq J) a g.host g.event g.outside g.moment in
+      let told = event_told checks (last_seq J) a g.host g.event g.outside g.moment (refusal_at checks a g.event g.outside g.moment) in
+      let D : List ℕ → Type 0 = λ did.
+      Tells checks (last_seq J) did false (raises (last_rev (account did J).repo) (Row.Taken made)) (account did J) (moved (account did J) (Row.Taken made)) (events_in (Row.Taken made)) in
+      subst P (sym g.is) (subst D (sym told.did) (event_tells (last_seq J) a g.host g.event g.read g.outside g.moment g.fetched (subst F g.is formed)))
 
   faulty_tells : (J : List Row) (t : Taken) → IsOfFaulty t → TellsOf J (Row.Taken t)
   faulty_tells J t g =
