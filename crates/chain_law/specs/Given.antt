@@ -6,14 +6,12 @@ use Rattle.at_event.specs.Events.{IsEvent}
 use Rattle.at_event.specs.Formed.{IsShortText}
 use Rattle.at_event.specs.Seen.{Seen}
 use Rattle.at_event.specs.declared.head.Head.{Head}
-use Rattle.at_event.specs.declared.refusal.Refusal.{Refusal}
 use Rattle.relay_row.specs.Folds.{last_seq}
 use Rattle.relay_row.specs.declared.fetched.Whole.{Whole}
 use Rattle.relay_row.specs.declared.operated.Operated.{Operated}
 use Rattle.relay_row.specs.declared.row.Row.{Row}
 use Rattle.relay_row.specs.declared.taken.Taken.{Taken}
 use Rattle.account_state.specs.Folds.{account, last_rev}
-use Rattle.account_state.specs.State.{State}
 use Rattle.repo_sync.specs.Repository.{IsWhole}
 use Rattle.repo_sync.specs.declared.found.Found.{Found as Checked}
 use Rattle.relay_core.specs.Decide.{Checks, Outside, Found, absent, unfit, found, event_taken_at, whole_under}

@@ -1,12 +1,11 @@
 -- The blocks of a relay's own `#sync`: a CAR of one commit object, which gives its head.
-use Rattle.std.proofs.Common.{◌≡◌, ℕ, ◌+◌, ◌≤◌, Bool, true, false, ◌&&◌, cond, ltb, List, [], ◌∷◌, ◌++◌, length, Option, Some, Ok, Err, refl, sym, ap, ◌∙◌, subst, arith}
+use Rattle.std.proofs.Common.{◌≡◌, ℕ, ◌+◌, ◌≤◌, true, false, ◌&&◌, cond, ltb, List, [], ◌∷◌, ◌++◌, length, Option, Ok, Err, refl, sym, ap, ◌∙◌, subst, arith}
 use Rattle.std.proofs.lemmas.Bool.{and_parts, ltb-false}
 use Rattle.std.specs.FinMap as map
 use Rattle.at_cid.specs.Link.{IsBytes}
-use Rattle.at_cid.specs.Order.{key_cmp}
-use Rattle.at_cbor.specs.Encoding.{IsString, encoding}
+use Rattle.at_cbor.specs.Encoding.{IsString}
 use Rattle.at_cbor.specs.Taking.{whole_item}
-use Rattle.at_car.specs.Blocks.{HasDigestOf, IsLinkOf}
+use Rattle.at_car.specs.Blocks.{IsLinkOf}
 use Rattle.at_car.specs.Car.{car_of}
 use Rattle.at_car.specs.Form.{header_bytes, section_bytes, sections_bytes}
 use Rattle.at_car.specs.Sections.{Section}

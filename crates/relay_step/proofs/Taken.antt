@@ -32,14 +32,14 @@ use Rattle.relay_core.specs.declared.decision.Next.{Next}
 use Rattle.relay_core.specs.declared.journal_state.Core.{Core}
 use Rattle.relay_core.proofs.Returning.{block_returns}
 use Rattle.relay_core.proofs.Showing.{rows_show}
-use Rattle.relay_law.specs.Formed.{AreAnswersTo, IsOpenedAs}
+use Rattle.relay_law.specs.Formed.{IsOpenedAs}
 use Rattle.relay_law.specs.Right.{LinksRight}
 use Rattle.relay_step.specs.Around.{Around, AskedOf, IsTimed}
 use Rattle.relay_step.specs.Asked.{event_calls, home_calls, verdict_calls}
 use Rattle.relay_step.specs.Fetching.{IsFetched, IsFetchedAs, told_where}
 use Rattle.relay_io.specs.Choices.{WhereElse}
 use Rattle.relay_step.specs.Messages.{EndsNumbers, IsAskedOf as AskedAround, IsDecided}
-use Rattle.relay_step.specs.Questions.{IsLinkAnswer, IsTimedSo, calls_told, is_unlinked}
+use Rattle.relay_step.specs.Questions.{IsLinkAnswer, IsTimedSo, is_unlinked}
 use Rattle.relay_step.specs.Steps.{recorded}
 use Rattle.relay_step.specs.Taking.{EventAnswered, EventRecorded, IsFetchOf, IsFetchedSo}
 use Rattle.relay_step.specs.Commands.{IsNow}

@@ -12,19 +12,12 @@ use Rattle.relay_disk.specs.MemoryView.{memory_view}
 use Rattle.relay_disk.specs.declared.memory.MemoryDisk.{MemoryDisk}
 use Rattle.gate_log.specs.Image.{IsMade as IsMadeLog}
 use Rattle.relay_store.specs.Journals.{bytes_of}
-use Rattle.relay_row.specs.Folds.{last_seq}
-use Rattle.relay_row.specs.declared.fetched.Fetched.{Fetched}
 use Rattle.relay_row.specs.declared.row.Row.{Row}
 use Rattle.relay_row.specs.declared.taken.Taken.{Taken}
-use Rattle.account_state.specs.Folds.{account}
-use Rattle.relay_core.specs.Decide.{Checks, absent, decided_event}
-use Rattle.relay_core.specs.Rows.{faulty_taken}
+use Rattle.relay_core.specs.Decide.{Checks}
 use Rattle.relay_core.specs.Opening.{OpensRight}
-use Rattle.relay_core.specs.Runs.{IsMadeBy}
-use Rattle.relay_core.specs.Shown.{shown, shows_home, shows_verdict, found_in, or_zero}
 use Rattle.relay_io.specs.Moments.{first_moment, later_moments}
 use Rattle.relay_law.specs.Right.{LinksRight}
-use Rattle.relay_law.proofs.Choosing.{some_right}
 use Rattle.relay_step.specs.Around.{Around, around, OneAsked, AllAsked, AskedNothing, IsTimed}
 use Rattle.relay_step.specs.Steps.{Decided, after_end, skipped, recorded, Step, AreSteps, IsDecidedAs, ended_by_all, ended_decided, message_of, rows, rows_decided}
 use Rattle.store_take.specs.Batches.{Batched, message_from, scene, messages_sent}
