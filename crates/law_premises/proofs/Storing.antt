@@ -15,12 +15,15 @@ use Rattle.at_event.specs.declared.kind.EventKind.{EventKind}
 use Rattle.at_event.specs.declared.refusal.Refusal.{Refusal}
 use Rattle.at_event.proofs.Messages.{event_again}
 use Rattle.relay_row.specs.Folds.{cursor, last_seq, names}
+use Rattle.relay_row.specs.declared.fetched.Fetched.{Fetched}
 use Rattle.relay_row.specs.declared.row.Row.{Row}
+use Rattle.relay_row.specs.declared.taken.Taken.{Taken}
 use Rattle.account_state.specs.Folds.{account}
 use Rattle.account_state.specs.declared.repo.Repo.{Repo}
 use Rattle.commit_check.specs.Step.{StopsAt, empty_root}
 use Rattle.relay_core.specs.Decide.{Checks, refusal_in}
 use Rattle.relay_core.specs.Opening.{IsHeadOf, OpensRight}
+use Rattle.relay_core.specs.Rows.{head_effect}
 use Rattle.relay_core.specs.Runs.{IsMadeBy, Run}
 use Rattle.relay_law.specs.Chains.{chains}
 use Rattle.relay_law.specs.Right.{LinksRight}
@@ -78,9 +81,13 @@ message_bytes = refl
 abbrev pub row : Row
 row = accepted 1 NUMBERS (out_of covered NUMBERS) its_head
 
+-- its row, by what opening says
+abbrev taken_as : Result Head Refusal → Taken
+taken_as x = record { host = host; host_seq = 1; did = did; kind = 1; refusal = None; seq = NUMBERS; message = out_of covered NUMBERS; effect = head_effect (Some x); fetched = Fetched.NotAsked; moment = Some 0 }
+
 pub made : (checks : Checks) → OpensRight checks → LinksRight checks → IsMadeBy checks (final ∷ []) (host, Ok (Frame.Event covered)) row
 unfolding account last_seq out_length out_of event_message info_of tail_of groups
-made checks opens links = rw (opened checks opens, linked checks links) refl
+made checks opens links = rw (opened checks opens, linked checks links) (ap (λ (x : Result Head Refusal). Some (taken_as x)) (opened checks opens))
 
 covered_run : (checks : Checks) → OpensRight checks → LinksRight checks → Run checks (final ∷ []) ((host, Ok (Frame.Event covered)) ∷ []) (row ∷ [])
 unfolding cursor
