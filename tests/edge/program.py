@@ -114,6 +114,10 @@ def closed_input(folder):
         same((status, out), (3, b""), f"{words}")
         expect(b"standard input: it is closed" in err, f"{words} says {err!r}")
     same(with_closed(day, ["hosts"], [0])[0], 0, "the status of hosts, which reads no input")
+    for words in (["ingest", "now"], ["check", "1"], ["mirror", day], ["nonsense"]):
+        status, out, err = with_closed(day, words, [0])
+        same((status, out), (2, b""), f"{words}, which are no command")
+        expect(b"usage" in err, f"{words} says {err!r}")
     expect(content(day) == before, "a file changed")
 
 
