@@ -6,7 +6,7 @@ import subprocess
 from dataclasses import dataclass, field
 
 ERROR = re.compile(r"^(?:note: )?(?:\./)?(?P<file>(?:src|specs|proofs)/\S+?):(?P<line>\d+):\d+: error(?:\[[\w-]+\])?: (?P<words>.*)")
-OPEN = re.compile(r"^note: \S+: it is not proved that .*\(`(?P<goal>[^`]+)`\)(?P<why>.*)")
+OPEN = re.compile(r"^note: \S+: (?:it is not proved that .*|`search` found no proof )\(`(?P<goal>[^`]+)`\)(?P<why>.*)")
 FUNCTION = re.compile(r"^fn (?P<path>\S+): (?P<verdict>.*)")
 CALLS = re.compile(r"it calls (.*), which (?:is|are) not proved")
 QUOTED = re.compile(r"`(\S+?)`")
