@@ -6,6 +6,7 @@ tried again. Where the prover refuses stored answers alone, these are taken out,
 """
 import os
 import pathlib
+import re
 import shutil
 import tempfile
 from dataclasses import dataclass, field
@@ -33,6 +34,11 @@ class Result:
         return f"{self.word} {self.more}".rstrip()
 
 
+def without_cycle(folder: str) -> str:
+    """A folder of answers without the mark of a cycle, which one function that calls itself has, too."""
+    return re.sub(r"(^|/)\+", r"\1", folder)
+
+
 @dataclass
 class Trial:
     """An edit that is tried: the functions whose bodies it changes (none: more than bodies); the answers that it breaks, and
@@ -54,7 +60,7 @@ class Trial:
 
     @property
     def folders(self):
-        return {each.folder for each in self.functions}
+        return {without_cycle(each.folder) for each in self.functions}
 
     def has(self, path: str) -> bool:
         """Whether a function's line tells of this edit."""
@@ -62,7 +68,7 @@ class Trial:
 
     def has_file(self, file: str) -> bool:
         """Whether a file of proofs is of its functions."""
-        return not self.functions or file.removeprefix("proofs/").rpartition("/")[0] in self.folders
+        return not self.functions or without_cycle(file.removeprefix("proofs/").rpartition("/")[0]) in self.folders
 
 
 def part_of(goal: str) -> str:
